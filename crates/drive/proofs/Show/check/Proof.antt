@@ -1,0 +1,83 @@
+-- `check` answers the first refusal of 2, 5, 6 and 7. Assumes nothing.
+use mathlib.Core.Path.{_≡_, sym, _∙_}
+use borrow.Author.Needs.{needs}
+use borrow.Author.Tests.{not-true, not-false}
+use Rattle.drive.specs.declared.Show.{Show}
+use Rattle.drive.specs.declared.refusal.Refusal.the-variants.{Counts, DriveLimits}
+use Rattle.drive.specs.declared.refusal.Check.the-variants.{Within}
+use Rattle.drive.specs.Limits.{CountsWithin}
+use Rattle.drive.specs.Checks.{counts?, drive?, countsCheck, driveCheck, showCheck}
+use Rattle.drive.proofs.Checks.{tells-yes, kept-if, broken-if, first-refused, first-within}
+use Rattle.drive.proofs.Show.check.Statement.{statement}
+use Rattle.drive.proofs.Show.check.Tie as tie
+
+abbrev show : tie.Else1 → Show
+show c = c .before .before .args .self
+
+within : (c : tie.Else1) → CountsWithin (show c .laid) (show c .playing)
+within c = tells-yes _ (c .before .counted .result) (not-false _ (c .if1 .left)) (c .before .counted .ensures)
+
+counts : (c : tie.Else1) → countsCheck (show c .laid) (show c .playing) ≡ Within
+counts c = kept-if (counts? _ _) Counts (c .before .counted .result) (not-false _ (c .if1 .left)) (c .before .counted .ensures)
+
+drive : (c : tie.Else2) → driveCheck (show (c .before .before) .drive) ≡ Within
+drive c = kept-if (drive? _) DriveLimits (c .before .within .result) (not-false _ (c .if2 .left)) (c .before .within .ensures)
+
+counted-requires : tie.Need-counted-requires
+counted-requires c κs = search needs
+
+returns : tie.Need-returns
+unfolding showCheck
+returns c =
+    sym (first-refused _ _ (broken-if (counts? _ _) Counts (c .before .counted .result) (not-true _ (c .if1 .taken)) (c .before .counted .ensures)))
+
+within-requires : tie.Need-within-requires
+within-requires c κs = search needs
+
+returns-2 : tie.Need-returns-2
+unfolding showCheck
+returns-2 c =
+    sym (first-within _ _ (counts (c .before .before))
+    ∙ first-refused _ _ (broken-if (drive? _) DriveLimits (c .before .within .result) (not-true _ (c .if2 .taken)) (c .before .within .ensures)))
+
+check-layouts-requires : tie.Need-check-layouts-requires
+check-layouts-requires c κs = within (c .before .before) .layouts .high
+
+enum-known-layouts : tie.Need-enum-known-layouts
+enum-known-layouts c = search needs
+
+returns-3 : tie.Need-returns-3
+unfolding showCheck
+returns-3 c =
+    let d = c .before .before .before .before in
+    sym (first-within _ _ (counts (d .before .before)) ∙ first-within _ _ (drive d)
+    ∙ first-refused _ _ (sym (c .before .before .before .check-layouts .ensures) ∙ c .before .layouts .given .1))
+
+enum-told : tie.Need-enum-told
+enum-told c = search needs
+
+check-sessions-requires : tie.Need-check-sessions-requires
+check-sessions-requires c κs = within (c .before .before .before .before .before) .sessions
+
+returns-4 : tie.Need-returns-4
+unfolding showCheck
+returns-4 c =
+    let d = c .before .before .before .before in
+    c .check-sessions .ensures
+    ∙ sym (first-within _ _ (counts (d .before .before)) ∙ first-within _ _ (drive d)
+    ∙ first-within _ _ (sym (c .before .before .before .check-layouts .ensures) ∙ c .before .enum-told .given .1))
+
+pub check-spec : {M : Type 1} → statement M
+check-spec =
+    tie.close
+    (tie.spec
+    counted-requires
+    returns
+    within-requires
+    returns-2
+    check-layouts-requires
+    enum-known-layouts
+    returns-3
+    enum-told
+    check-sessions-requires
+    returns-4)

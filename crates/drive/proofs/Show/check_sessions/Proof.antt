@@ -1,0 +1,68 @@
+-- `check_sessions` finds the lowest session outside its limits. Invariant: no session below i is refused; what falls: playing - i.
+-- Assumes nothing.
+use Prim.Native.Nat.{_-_}
+use native.Mathlib.Omega.{arith}
+use borrow.Author.Needs.{needs}
+use borrow.Author.Tests.{not-true, not-false}
+use Rattle.drive.specs.declared.refusal.Refusal.the-variants.{SessionLimits}
+use Rattle.drive.specs.Limits.{Tells, SessionWithin, sessionAt}
+use Rattle.drive.specs.Checks.{session?, sessionCheck}
+use Rattle.drive.proofs.Checks.{SoFar, begun, body, stopped, ended, kept-if, broken-if}
+use Rattle.drive.proofs.Show.check_sessions.Statement.{statement}
+use Rattle.drive.proofs.Show.check_sessions.Tie as tie
+use Rattle.drive.proofs.Show.check_sessions.Reads as reads
+use Rattle.drive.proofs.Show.check_sessions.Lts as lts
+use Rattle.drive.proofs.Session.within.Reads as within-reads
+
+abbrev Inv-loop : tie.InvT-loop
+Inv-loop self i₀ i = SoFar (sessionCheck self) (self .playing) i
+
+abbrev μ-loop : tie.MeasureT-loop
+μ-loop self i₀ i = self .playing - i
+
+loop-holds : tie.Need-loop-holds Inv-loop μ-loop
+loop-holds c = begun _ _
+
+mul-within : tie.Need-mul-within Inv-loop μ-loop
+mul-within c = search needs
+
+element-copy-out-within : tie.Need-element-copy-out-within Inv-loop μ-loop
+element-copy-out-within c = search needs
+
+within-requires : tie.Need-within-requires Inv-loop μ-loop
+within-requires c κs = search needs
+
+returns : tie.Need-returns Inv-loop μ-loop
+returns c =
+    stopped _ _ _ (c .before .before .before .before .loop .inv) (c .before .before .before .loop-test .taken)
+    (broken-if (session? _ _) (SessionLimits _) (c .before .within .result) (not-true _ (c .if1 .taken)) (c .before .within .ensures))
+
+add-i : tie.Need-add-i Inv-loop μ-loop
+add-i c = search needs
+
+loop-less : tie.Need-loop-less Inv-loop μ-loop
+loop-less c = search needs
+
+loop-again : tie.Need-loop-again Inv-loop μ-loop
+loop-again c =
+    body _ _ _ (c .before .before .before .before .loop .inv) (c .before .before .before .loop-test .taken)
+    (kept-if (session? _ _) (SessionLimits _) (c .before .within .result) (not-false _ (c .if1 .left)) (c .before .within .ensures))
+
+returns-2 : tie.Need-returns-2 Inv-loop μ-loop
+returns-2 c = ended _ _ _ (c .before .loop .inv) (c .loop-test .left)
+
+pub check-sessions-spec : {M : Type 1} → statement M
+check-sessions-spec =
+    tie.close
+    (tie.spec
+    Inv-loop
+    μ-loop
+    loop-holds
+    mul-within
+    element-copy-out-within
+    within-requires
+    returns
+    add-i
+    loop-less
+    loop-again
+    returns-2)

@@ -1,0 +1,5 @@
+pub mod Limits
+pub mod Refusals
+pub mod Checks
+pub mod Bound
+pub mod Worst

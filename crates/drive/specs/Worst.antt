@@ -1,0 +1,43 @@
+-- What a session's operations cost, and what the calls for the worst time answer.
+use Prim.Native.Nat.{ℕ, _+_, _*_, _≤_, _<_}
+use mathlib.Core.Logic.{ite, Dec·and}
+use native.Mathlib.Decide.{decLe, decLt, map-dec}
+use Rattle.drive.specs.Limits.{layoutAt, sessionAt}
+use Rattle.drive.specs.Checks.{first, unless, showCheck}
+use Rattle.drive.specs.Bound.{Limited, worstTime}
+use Rattle.drive.specs.declared.Layout.{Layout}
+use Rattle.drive.specs.declared.Show.{Show}
+use Rattle.drive.specs.declared.cost.Cost.{Cost}
+use Rattle.drive.specs.declared.cost.Time.{Time}
+use Rattle.drive.specs.declared.cost.Time.the-variants as time
+use Rattle.drive.specs.declared.cost.Worst.{Worst}
+use Rattle.drive.specs.declared.cost.Worst.the-variants as worst
+use Rattle.drive.specs.declared.refusal.Refusal.the-variants.{NoSession}
+use Rattle.drive.specs.declared.refusal.Check.{Check}
+use Rattle.drive.specs.declared.refusal.Check.the-variants.{Within, Refused}
+
+-- A read: longest seek and twice the rotation once, the block time for each block, the one-track seek for each edge.
+abbrev pub readCost : Layout → Cost
+readCost y = record { fixed = y .longest + 2 * y .rotation; each = y .time; cross = y .track }
+
+-- A session's operations are reads on its layout.
+unfoldable pub costOf : Show → ℕ → Cost
+costOf s i = readCost (layoutAt s (sessionAt s i .layout))
+
+pub limited? : (c : Cost) → Dec (Limited c)
+limited? c =
+    map-dec (λ h. record { fixed = h .0; each = h .1 .0; cross = h .1 .1 }) (λ b. (b .fixed, (b .each, b .cross)))
+    (Dec·and (decLe (c .fixed) 5000000) (Dec·and (decLe (c .each) 3000000) (decLe (c .cross) 1000000)))
+
+-- U(n) of a cost within its limits
+unfoldable pub timeOf : Cost → ℕ → ℕ → Time
+timeOf c N n = ite (limited? c) (time.Takes (worstTime N c n)) time.Beyond
+
+abbrev pub answered : Check → ℕ → Worst
+answered Within t = worst.Takes t
+answered (Refused w) t = worst.Refused w
+
+-- U(n) of session i, or 2, 5, 6, 7, 9
+unfoldable pub worstOf : Show → ℕ → ℕ → Worst
+worstOf s i n =
+    answered (first (showCheck s) (unless (decLt i (s .playing)) NoSession)) (worstTime (s .drive .cylinder) (costOf s i) n)

@@ -1,0 +1,147 @@
+// The worst time of an operation: U of document 01.
+ghost use mathlib.Core.Path.{_≡_};
+ghost use Prim.Native.Nat.{_≤_};
+ghost use Rattle.drive.specs.Limits.{Tells, sessionAt, layoutAt};
+ghost use Rattle.drive.specs.Bound.{Limited, edges, worstTime};
+ghost use Rattle.drive.specs.Worst.{readCost, costOf, timeOf, worstOf};
+use crate::Layout;
+use crate::Session;
+use crate::Show;
+use crate::refusal::Check;
+use crate::refusal::Refusal;
+
+// What an operation costs, in µs: once, for each block, for each cylinder edge.
+pub struct Cost {
+    pub fixed: u64,
+    pub each: u64,
+    pub cross: u64,
+}
+
+// How long an operation takes at worst, or that its cost is beyond the limits.
+pub enum Time {
+    Takes(u64),
+    Beyond,
+}
+
+// How long so many blocks of a session take at worst, or why there is no answer.
+pub enum Worst {
+    Takes(u64),
+    Refused(Refusal),
+}
+
+impl Cost {
+    pub const FIXED_MOST: u64 = 5_000_000;
+
+    pub const EACH_MOST: u64 = 3_000_000;
+
+    pub const CROSS_MOST: u64 = 1_000_000;
+
+    fn within(self) -> bool
+        ensures { λ r. ⌜ Tells r (Limited self) ⌝ }
+    {
+        if Cost::FIXED_MOST < self.fixed {
+            return false;
+        }
+        if Cost::EACH_MOST < self.each {
+            return false;
+        }
+        if Cost::CROSS_MOST < self.cross {
+            return false;
+        }
+        true
+    }
+
+    fn bound(self, cylinder: u32, n: u32) -> u64
+        requires { ⌜ Limited self ⌝ }
+        ensures { λ r. ⌜ r ≡ worstTime cylinder self n ⌝ }
+    {
+        let blocks = n as u64 * self.each;
+        let crossed = edges(cylinder, n) * self.cross;
+        self.fixed + blocks + crossed
+    }
+
+    // U(n) of any cost within the limits, on a drive with so many blocks to a cylinder.
+    pub fn time(self, cylinder: u32, n: u32) -> Time
+        ensures { λ r. ⌜ r ≡ timeOf self cylinder n ⌝ }
+    {
+        if !self.within() {
+            return Time::Beyond;
+        }
+        Time::Takes(self.bound(cylinder, n))
+    }
+}
+
+// The cylinder edges that n blocks cross at most. A drive within its limits has no cylinder of 0 blocks.
+fn edges(cylinder: u32, n: u32) -> u64
+    ensures { λ r. ⌜ r ≡ edges cylinder n ⌝ }
+{
+    if cylinder == 0 {
+        return 0;
+    }
+    let per = cylinder as u64;
+    (n as u64 + per - 1) / per
+}
+
+fn read_cost(layout: Layout) -> Cost
+    ensures { λ r. ⌜ r ≡ readCost layout ⌝ }
+{
+    Cost {
+        fixed: layout.longest as u64 + 2 * (layout.rotation as u64),
+        each: layout.time as u64,
+        cross: layout.track as u64,
+    }
+}
+
+impl Show {
+    fn session(self, i: usize) -> Session
+        ensures { λ r. ⌜ r ≡ sessionAt self i ⌝ }
+    {
+        if i < 16 {
+            return self.sessions[i];
+        }
+        Session {
+            rate: 0,
+            cushion: 0,
+            buffer: 0,
+            layout: 0,
+        }
+    }
+
+    fn layout(self, i: usize) -> Layout
+        ensures { λ r. ⌜ r ≡ layoutAt self i ⌝ }
+    {
+        if i < 8 {
+            return self.layouts[i];
+        }
+        Layout {
+            longest: 0,
+            track: 0,
+            time: 0,
+            rotation: 0,
+        }
+    }
+
+    // What a session's operations cost.
+    pub fn cost(self, i: usize) -> Cost
+        ensures { λ r. ⌜ r ≡ costOf self i ⌝ }
+    {
+        let session = self.session(i);
+        let at = session.layout as usize;
+        read_cost(self.layout(at))
+    }
+
+    // U(n) of session i: 2, 5, 6, 7, then 9.
+    pub fn worst(self, i: usize, n: u32) -> Worst
+        ensures { λ r. ⌜ r ≡ worstOf self i n ⌝ }
+    {
+        let check = self.check();
+        if let Check::Refused(why) = check {
+            return Worst::Refused(why);
+        }
+        if self.playing <= i {
+            return Worst::Refused(Refusal::NoSession);
+        }
+        let cost = self.cost(i);
+        Worst::Takes(cost.bound(self.drive.cylinder, n))
+    }
+}
