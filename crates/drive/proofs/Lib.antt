@@ -1,1 +1,7 @@
 pub mod Checks
+pub mod Ceil
+pub mod Edges
+pub mod Bound
+pub mod Lists
+pub mod Shows
+pub mod Costs

@@ -1,42 +1,54 @@
+-- `worst` answers U of a session, or the first refusal of 2, 5, 6, 7 and 9. Assumes nothing.
+use mathlib.Core.Path.{_≡_, sym, ap, _∙_}
 use borrow.Author.Needs.{needs}
+use Rattle.drive.specs.declared.Show.{Show}
+use Rattle.drive.specs.declared.cost.Cost.{Cost}
+use Rattle.drive.specs.declared.cost.Worst.the-variants.{Takes}
+use Rattle.drive.specs.declared.refusal.Check.the-variants.{Within}
+use Rattle.drive.specs.Checks.{showCheck}
+use Rattle.drive.specs.Bound.{Limited, worstTime}
+use Rattle.drive.specs.Worst.{costOf}
+use Rattle.drive.proofs.Shows.{check-within}
+use Rattle.drive.proofs.Costs.{cost-limited, worst-refused, worst-nobody, worst-takes}
 use Rattle.drive.proofs.Show.worst.Statement.{statement}
 use Rattle.drive.proofs.Show.worst.Tie as tie
-use Rattle.drive.proofs.Show.worst.Reads as reads
-use Rattle.drive.proofs.Show.worst.Lts as lts
-use Rattle.drive.proofs.Show.check.Reads as check-reads
-use Rattle.drive.proofs.Show.cost.Reads as cost-reads
-use Rattle.drive.proofs.cost.Cost.bound.Reads as bound-reads
 
--- src/cost.rt:137:13
+abbrev show : tie.After-enum-told → Show
+show c = c .before .before .before .args .self
+
+within : (c : tie.After-enum-told) → showCheck (show c) ≡ Within
+within c = sym (c .before .before .check .ensures) ∙ c .enum-told .given .1
+
+limited : (c : tie.Else1) → Limited (costOf (show (c .before .before)) (c .before .before .before .before .before .args .i))
+limited c =
+    cost-limited (show (c .before .before)) (check-within _ (within (c .before .before))) _ (c .if1 .left)
+
 check-requires : tie.Need-check-requires
 check-requires c κs = search needs
 
--- src/cost.rt:138:31
 enum-known-check : tie.Need-enum-known-check
 enum-known-check c = search needs
 
--- src/cost.rt:139:13
 returns : tie.Need-returns
-returns c = ?
+returns c = sym (worst-refused _ _ _ (sym (c .before .before .before .check .ensures) ∙ c .before .check2 .given .1))
 
 enum-told : tie.Need-enum-told
 enum-told c = search needs
 
--- src/cost.rt:142:13
 returns-2 : tie.Need-returns-2
-returns-2 c = ?
+returns-2 c = sym (worst-nobody _ _ _ (within (c .before .before)) (c .if1 .taken))
 
--- src/cost.rt:144:13
 cost-requires : tie.Need-cost-requires
 cost-requires c κs = search needs
 
--- src/cost.rt:145:22
 bound-requires : tie.Need-bound-requires
-bound-requires c κs = ?
+bound-requires c κs = rw (c .cost .ensures) (limited (c .before))
 
--- src/cost.rt:134:5
 returns-3 : tie.Need-returns-3
-returns-3 c = ?
+returns-3 c =
+    let a = c .before .before .before .before .before .before .before .args in
+    ap Takes (c .bound .ensures ∙ ap (λ (x : Cost). worstTime (a .self .drive .cylinder) x (a .n)) (c .before .cost .ensures))
+    ∙ sym (worst-takes _ _ _ (within (c .before .before .before .before)) (c .before .before .if1 .left))
 
 pub worst-spec : {M : Type 1} → statement M
 worst-spec =

@@ -1,28 +1,27 @@
+-- `edges` answers n/N rounded up. Assumes nothing.
+use mathlib.Core.Path.{_≡_, refl, sym, ap, _∙_}
+use Prim.Native.Nat.{ℕ}
 use borrow.Author.Needs.{needs}
+use Rattle.drive.specs.Bound.{ceil, edges}
+use Rattle.drive.proofs.Edges.{edges-none}
 use Rattle.drive.proofs.cost.edges.Statement.{statement}
 use Rattle.drive.proofs.cost.edges.Tie as tie
-use Rattle.drive.proofs.cost.edges.Reads as reads
-use Rattle.drive.proofs.cost.edges.Lts as lts
 
--- src/cost.rt:79:9
 returns : tie.Need-returns
-returns c = ?
+returns c = sym (ap (λ (N : ℕ). edges N (c .before .args .n)) (c .if1 .taken) ∙ edges-none _)
 
--- src/cost.rt:82:6
 add-result : tie.Need-add-result
 add-result c = search needs
 
--- src/cost.rt:82:6
 sub-result : tie.Need-sub-result
 sub-result c = search needs
 
--- src/cost.rt:82:5
 div-result : tie.Need-div-result
 div-result c = search needs
 
--- src/cost.rt:75:1
 returns-2 : tie.Need-returns-2
-returns-2 c = ?
+unfolding edges ceil
+returns-2 c = refl
 
 pub edges-spec : {M : Type 1} → statement M
 edges-spec = tie.close (tie.spec returns add-result sub-result div-result returns-2)

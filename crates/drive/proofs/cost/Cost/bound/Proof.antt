@@ -1,33 +1,36 @@
+-- `bound` answers U of a cost within its limits: neither product nor sum overflows. Assumes nothing.
+use Prim.Native.Nat.{_^_}
+use mathlib.Core.Path.{refl}
+use native.Mathlib.Omega.{arith}
 use borrow.Author.Needs.{needs}
+use Rattle.drive.specs.Bound.{edges, worstTime}
+use Rattle.drive.proofs.Bound.{PartsCapped, parts-capped}
 use Rattle.drive.proofs.cost.Cost.bound.Statement.{statement}
 use Rattle.drive.proofs.cost.Cost.bound.Tie as tie
-use Rattle.drive.proofs.cost.Cost.bound.Reads as reads
-use Rattle.drive.proofs.cost.Cost.bound.Lts as lts
-use Rattle.drive.proofs.cost.edges.Reads as edges-reads
 
--- src/cost.rt:58:22
+parts : (c : tie.Start) → PartsCapped (c .args .cylinder) 4294967295 (c .args .self) (c .args .n)
+parts c = parts-capped _ 4294967295 _ (c .pre) _ (search needs)
+
 mul-blocks : tie.Need-mul-blocks
-mul-blocks c = ?
+mul-blocks c = omega (arith, parts (c .before))
 
--- src/cost.rt:59:23
 edges-requires : tie.Need-edges-requires
 edges-requires c κs = search needs
 
--- src/cost.rt:59:23
 mul-crossed : tie.Need-mul-crossed
-mul-crossed c = ?
+mul-crossed c = rw (c .before .edges .ensures) (omega (arith, parts (c .before .before .before)))
 
--- src/cost.rt:60:9
 add-result : tie.Need-add-result
-add-result c = ?
+add-result c = omega (arith, parts (c .before .before .before .before), c .before .before .before .before .pre)
 
--- src/cost.rt:60:9
 add-result-2 : tie.Need-add-result-2
-add-result-2 c = ?
+add-result-2 c =
+    rw (c .before .before .edges .ensures)
+    (omega (arith, parts (c .before .before .before .before), c .before .before .before .before .pre))
 
--- src/cost.rt:54:5
 returns : tie.Need-returns
-returns c = ?
+unfolding worstTime
+returns c = rw (c .before .before .edges .ensures)
 
 pub bound-spec : {M : Type 1} → statement M
 bound-spec =

@@ -1,26 +1,32 @@
+-- `time` answers U, or that the cost is beyond its limits. Assumes nothing.
+use mathlib.Core.Path.{_≡_, sym, ap, _∙_}
+use mathlib.Core.Logic.{if-pos, if-neg}
 use borrow.Author.Needs.{needs}
+use borrow.Author.Tests.{not-true, not-false}
+use Rattle.drive.specs.declared.cost.Time.the-variants.{Takes, Beyond}
+use Rattle.drive.specs.Bound.{Limited}
+use Rattle.drive.specs.Worst.{limited?, timeOf}
+use Rattle.drive.proofs.Checks.{tells-yes, tells-no}
 use Rattle.drive.proofs.cost.Cost.time.Statement.{statement}
 use Rattle.drive.proofs.cost.Cost.time.Tie as tie
-use Rattle.drive.proofs.cost.Cost.time.Reads as reads
-use Rattle.drive.proofs.cost.Cost.time.Lts as lts
-use Rattle.drive.proofs.cost.Cost.bound.Reads as bound-reads
-use Rattle.drive.proofs.cost.Cost.within.Reads as within-reads
 
--- src/cost.rt:67:13
+limited : (c : tie.Else1) → Limited (c .before .before .args .self)
+limited c = tells-yes _ (c .before .within .result) (not-false _ (c .if1 .left)) (c .before .within .ensures)
+
 within-requires : tie.Need-within-requires
 within-requires c κs = search needs
 
--- src/cost.rt:68:13
 returns : tie.Need-returns
-returns c = ?
+unfolding timeOf
+returns c =
+    sym (if-neg (limited? _) (tells-no _ (c .before .within .result) (not-true _ (c .if1 .taken)) (c .before .within .ensures)) _ Beyond)
 
--- src/cost.rt:70:21
 bound-requires : tie.Need-bound-requires
-bound-requires c κs = ?
+bound-requires c κs = limited c
 
--- src/cost.rt:64:5
 returns-2 : tie.Need-returns-2
-returns-2 c = ?
+unfolding timeOf
+returns-2 c = ap Takes (c .bound .ensures) ∙ sym (if-pos (limited? _) (limited (c .before)) _ Beyond)
 
 pub time-spec : {M : Type 1} → statement M
 time-spec = tie.close (tie.spec within-requires returns bound-requires returns-2)
