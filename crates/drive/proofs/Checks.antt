@@ -49,9 +49,9 @@ pub unless-within : {p : Type 0} (d : Dec p) (w : Refusal) → unless d w ≡ Wi
 unless-within (yes h) w e = h
 unless-within (no h) w e = within-refused (sym e)
 
-pub unless-refused : {p : Type 0} (d : Dec p) (w : Refusal) {v : Refusal} → unless d w ≡ Refused v → p → ⊥
+pub unless-refused : {p : Type 0} (d : Dec p) (w : Refusal) {v : Refusal} → unless d w ≡ Refused v → (p → ⊥) × (w ≡ v)
 unless-refused (yes h) w e = within-refused e
-unless-refused (no h) w e = h
+unless-refused (no h) w e = (h, cc)
 
 -- ---- the first refusal of two
 
@@ -72,7 +72,7 @@ first-right (Refused w) y e = within-refused (sym e)
 -- ---- the first refusal of the places below n
 
 -- The lowest place below n where a test refuses, and with what.
-pub record Lowest (test : ℕ → Check) (n : ℕ) (w : Refusal) : Type 0 where
+pub record LowestRefusal (test : ℕ → Check) (n : ℕ) (w : Refusal) : Type 0 where
   pub at : ℕ
   pub inside : at < n
   pub before : (k : ℕ) → k < at → test k ≡ Within
@@ -114,14 +114,14 @@ module _ (test : ℕ → Check) where
       first-within _ _ (below-all n (λ i l. h i (omega arith))) ∙ h n (omega arith)
 
   -- a refusal is that of the lowest offender
-  pub below-lowest : (n : ℕ) {w : Refusal} → firstBelow test n ≡ Refused w → Lowest test n w
+  pub below-lowest : (n : ℕ) {w : Refusal} → firstBelow test n ≡ Refused w → LowestRefusal test n w
   unfolding firstBelow
   below-lowest zero e = within-refused e
   below-lowest (suc n) {w} e = from (firstBelow test n) refl e (λ h. below-lowest n h)
     where
       from :
           (x : Check) → firstBelow test n ≡ x → first x (test n) ≡ Refused w →
-          (firstBelow test n ≡ Refused w → Lowest test n w) → Lowest test (suc n) w
+          (firstBelow test n ≡ Refused w → LowestRefusal test n w) → LowestRefusal test (suc n) w
       from Within p q more = record { at = n; inside = omega arith; before = below-at n p; refuses = q }
       from (Refused v) p q more =
           let r = more (p ∙ q) in

@@ -5,3 +5,4 @@ pub mod Bound
 pub mod Lists
 pub mod Shows
 pub mod Costs
+pub mod Faults

@@ -3,3 +3,4 @@ pub mod Refusals
 pub mod Checks
 pub mod Bound
 pub mod Worst
+pub mod Faults

@@ -12,12 +12,12 @@ use Rattle.drive.specs.declared.refusal.Refusal.the-variants.{
   SessionLimits,
   NoSet,
   NoSession,
-  TakesTooMuch,
-  LastsTooLong,
+  TooMuch,
+  TooLong,
   NotStarted,
   ReadUnderway,
   PutLimit,
-  SlackBelowZero,
+  NegativeSlack,
   BufferShort,
   NothingUnderway,
   AlreadyStarted,
@@ -34,12 +34,12 @@ numberOf (LayoutLimits i) = 6
 numberOf (SessionLimits i) = 7
 numberOf NoSet = 8
 numberOf NoSession = 9
-numberOf TakesTooMuch = 10
-numberOf LastsTooLong = 11
+numberOf TooMuch = 10
+numberOf TooLong = 11
 numberOf NotStarted = 12
 numberOf ReadUnderway = 13
 numberOf PutLimit = 14
-numberOf SlackBelowZero = 15
+numberOf NegativeSlack = 15
 numberOf BufferShort = 16
 numberOf NothingUnderway = 17
 numberOf AlreadyStarted = 18
@@ -56,12 +56,12 @@ placeOf (LayoutLimits i) = i
 placeOf (SessionLimits i) = i
 placeOf NoSet = 0
 placeOf NoSession = 0
-placeOf TakesTooMuch = 0
-placeOf LastsTooLong = 0
+placeOf TooMuch = 0
+placeOf TooLong = 0
 placeOf NotStarted = 0
 placeOf ReadUnderway = 0
 placeOf PutLimit = 0
-placeOf SlackBelowZero = 0
+placeOf NegativeSlack = 0
 placeOf BufferShort = 0
 placeOf NothingUnderway = 0
 placeOf AlreadyStarted = 0
