@@ -1,0 +1,1 @@
+// What is promised: theorems over the other crates, and no code.
