@@ -1,6 +1,7 @@
 -- The costs of a show within its limits, and the worst time of its sessions. Assumes nothing.
 use Prim.Native.Nat.{ℕ, _+_, _*_, _≤_, _<_}
 use mathlib.Core.Path.{_≡_, refl, sym, ap, _∙_}
+use mathlib.Core.Logic.{if-pos}
 use native.Mathlib.Omega.{arith}
 use native.Mathlib.Decide.{decLt}
 use Rattle.drive.specs.declared.Drive.{Drive}
@@ -9,18 +10,19 @@ use Rattle.drive.specs.declared.Show.{Show}
 use Rattle.drive.specs.declared.cost.Cost.{Cost}
 use Rattle.drive.specs.declared.refusal.Check.{Check}
 use Rattle.drive.specs.declared.refusal.Check.the-variants.{Within, Refused}
+use Rattle.drive.specs.declared.cost.Time.the-variants as time
 use Rattle.drive.specs.declared.cost.Worst.the-variants as worst
 use Rattle.drive.specs.declared.refusal.Refusal.{Refusal}
 use Rattle.drive.specs.declared.refusal.Refusal.the-variants.{NoSession}
-use Rattle.drive.specs.Limits.{LayoutWithin, ShowWithin, layoutAt, sessionAt}
+use Rattle.drive.specs.Limits.{LayoutWithin, ShowWithin, Alike, layoutAt, sessionAt}
 use Rattle.drive.specs.Checks.{unless, showCheck}
 use Rattle.drive.specs.Bound.{Modest, Limited, Cheaper, BoundLaws, ceil, edges, worstTime, weight, spareOf}
-use Rattle.drive.specs.Worst.{readCost, costOf, worstOf}
+use Rattle.drive.specs.Worst.{readCost, costOf, limited?, timeOf, worstOf}
 use Rattle.drive.proofs.Checks.{unless-kept, unless-broken}
 use Rattle.drive.proofs.Bound.{worst-laws}
-use Rattle.drive.proofs.Shows.{Alike, check-within, alike-check}
+use Rattle.drive.proofs.Shows.{check-within, alike-check}
 
--- Document 01's line: longest seek + n x block time + (n/N rounded up) x one-track seek + 2 x rotation.
+-- The rule's line: longest seek + n x block time + (n/N rounded up) x one-track seek + 2 x rotation.
 pub read-time :
     (N : ℕ) (y : Layout) (n : ℕ) →
     worstTime N (readCost y) n ≡ y .longest + n * y .time + ceil n N * y .track + 2 * y .rotation
@@ -55,6 +57,11 @@ module _ (s : Show) (w : ShowWithin s) (i : ℕ) (l : i < s .playing) where
   -- U of each session has the laws.
   pub session-laws : BoundLaws (s .drive .cylinder) (weight (s .drive .cylinder) (costOf s i)) (spareOf (s .drive .cylinder) (costOf s i)) (worstTime (s .drive .cylinder) (costOf s i))
   session-laws = worst-laws (s .drive .cylinder) (w .drive .cylinder .low) (costOf s i) cost-modest
+
+-- A cost within its limits has an answer.
+pub time-takes : (c : Cost) → Limited c → (N n : ℕ) → timeOf c N n ≡ time.Takes (worstTime N c n)
+unfolding timeOf
+time-takes c l N n = if-pos (limited? c) l (time.Takes (worstTime N c n)) time.Beyond
 
 -- Shows that agree below their counts have the same costs there ..
 pub alike-cost : (s t : Show) → Alike s t → ShowWithin s → (i : ℕ) → i < s .playing → costOf s i ≡ costOf t i

@@ -1,16 +1,15 @@
 -- A show is refused with w exactly if it has the fault that w tells. Assumes nothing.
-use Prim.Native.Nat.{ℕ, _<_}
-use mathlib.Core.Path.{_≡_, refl, sym, subst, _∙_}
-use mathlib.Core.Logic.{_↔_}
+use Prim.Native.Nat.{ℕ}
+use mathlib.Core.Path.{_≡_, refl, subst, _∙_}
 use Rattle.drive.specs.declared.Show.{Show}
 use Rattle.drive.specs.declared.refusal.Check.{Check}
 use Rattle.drive.specs.declared.refusal.Check.the-variants.{Within, Refused}
 use Rattle.drive.specs.declared.refusal.Refusal.{Refusal}
 use Rattle.drive.specs.declared.refusal.Refusal.the-variants.{Counts, DriveLimits, LayoutLimits, SessionLimits}
 use Rattle.drive.specs.Limits.{CountsWithin, DriveWithin, layoutAt, sessionAt}
-use Rattle.drive.specs.Checks.{counts?, drive?, layout?, session?, unless, first, firstBelow, layoutCheck, layoutsCheck, sessionCheck, sessionsCheck, showCheck}
+use Rattle.drive.specs.Checks.{counts?, drive?, layout?, session?, unless, first, firstBelow, layoutCheck, layoutsCheck, sessionsCheck, showCheck}
 use Rattle.drive.specs.Faults.{Lowest, LaidWithin, PlayingWithin, Fault, counts, drive, layout, session}
-use Rattle.drive.proofs.Checks.{LowestRefusal, unless-kept, unless-broken, unless-within, unless-refused, first-within, first-refused, below-at, below-all, below-stops, below-lowest}
+use Rattle.drive.proofs.Checks.{unless-kept, unless-broken, unless-within, unless-refused, first-within, first-refused, below-at, below-all, below-stops, below-lowest}
 
 -- The lowest refusal of a row of limits is at its lowest offender.
 module _ (p : ℕ → Type 0) (told : (i : ℕ) → Dec (p i)) (why : ℕ → Refusal) (n : ℕ) where

@@ -1,16 +1,11 @@
 -- What the test of a show says: within exactly if every limit is kept; each refusal with its reason; nothing above a count is
 -- looked at. Assumes nothing.
-use Prim.Native.Nat.{ℕ, _+_, _*_, _≤_, _<_}
-use mathlib.Core.Path.{_≡_, refl, sym, ap, _∙_}
-use mathlib.Core.Logic.{_↔_}
-use native.Mathlib.Omega.{arith}
+use mathlib.Core.Path.{_≡_, _∙_}
 use Rattle.drive.specs.declared.Show.{Show}
-use Rattle.drive.specs.declared.refusal.Check.{Check}
-use Rattle.drive.specs.declared.refusal.Check.the-variants.{Within, Refused}
-use Rattle.drive.specs.declared.refusal.Refusal.{Refusal}
+use Rattle.drive.specs.declared.refusal.Check.the-variants.{Within}
 use Rattle.drive.specs.declared.refusal.Refusal.the-variants.{Counts, DriveLimits, LayoutLimits, SessionLimits}
-use Rattle.drive.specs.Limits.{CountsWithin, DriveWithin, LayoutWithin, SessionWithin, ShowWithin, layoutAt, sessionAt}
-use Rattle.drive.specs.Checks.{counts?, drive?, layout?, session?, first, firstBelow, countsCheck, driveCheck, layoutCheck, layoutsCheck, sessionCheck, sessionsCheck, limitsCheck, showCheck}
+use Rattle.drive.specs.Limits.{ShowWithin, Alike, layoutAt, sessionAt}
+use Rattle.drive.specs.Checks.{counts?, drive?, layout?, session?, first, countsCheck, driveCheck, layoutCheck, layoutsCheck, sessionCheck, sessionsCheck, limitsCheck, showCheck}
 use Rattle.drive.proofs.Checks.{unless-kept, unless-within, first-within, first-left, first-right, below-at, below-all, below-same}
 
 -- A show passes exactly if it is within every limit.
@@ -37,14 +32,6 @@ within-check s w =
     ∙ first-within _ _ (unless-kept (drive? (s .drive)) DriveLimits (w .drive))
     ∙ first-within _ _ (below-all (layoutCheck s) (s .laid) (λ i l. unless-kept (layout? (layoutAt s i)) (LayoutLimits i) (w .layouts i l)))
     ∙ below-all (sessionCheck s) (s .playing) (λ i l. unless-kept (session? (s .laid) (sessionAt s i)) (SessionLimits i) (w .sessions i l))
-
--- Two shows that agree below their counts.
-pub record Alike (s t : Show) : Type 0 where
-  pub drive : s .drive ≡ t .drive
-  pub laid : s .laid ≡ t .laid
-  pub playing : s .playing ≡ t .playing
-  pub layouts : (i : ℕ) → i < s .laid → layoutAt s i ≡ layoutAt t i
-  pub sessions : (i : ℕ) → i < s .playing → sessionAt s i ≡ sessionAt t i
 
 -- Places above a count are not looked at: such shows get the same answer.
 pub alike-check : (s t : Show) → Alike s t → showCheck s ≡ showCheck t

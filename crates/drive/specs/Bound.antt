@@ -1,4 +1,4 @@
--- U, the worst time for n blocks, over any cost; and the laws that all else knows of it.
+-- U, the worst time for n blocks (docs/RULES.md, section 3), over any cost; and the laws that all else knows of it.
 use Prim.Native.Nat.{ℕ, _+_, _*_, _/_, _-_, _≤_, _<_}
 use Rattle.drive.specs.declared.cost.Cost.{Cost}
 

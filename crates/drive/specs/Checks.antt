@@ -1,4 +1,4 @@
--- The tests of a show, 2, 5, 6 and 7, and how tests follow one another: the first refusal counts.
+-- The tests of a show, 2, 5, 6 and 7 (docs/RULES.md, section 4), and how tests follow one another: the first refusal counts.
 use Prim.Native.Nat.{ℕ, zero, suc, _%_}
 use mathlib.Core.Logic.{ite, dite, Dec·and}
 use native.Mathlib.Decide.{decLe, decLt, ℕ-discrete}

@@ -1,4 +1,4 @@
--- What a valid show is: document 01, "Limits, of the drive, a layout and a session".
+-- What a valid show is: docs/RULES.md, section 2.
 use Prim.Native.Nat.{ℕ, _%_, _≤_, _<_}
 use mathlib.Core.Path.{_≡_}
 use mathlib.Core.Bool.{Bool, true, false}
@@ -62,3 +62,11 @@ pub record ShowWithin (s : Show) : Type 0 where
   pub drive : DriveWithin (s .drive)
   pub layouts : (i : ℕ) → i < s .laid → LayoutWithin (layoutAt s i)
   pub sessions : (i : ℕ) → i < s .playing → SessionWithin (s .laid) (sessionAt s i)
+
+-- Two shows that agree below their counts.
+pub record Alike (s t : Show) : Type 0 where
+  pub drive : s .drive ≡ t .drive
+  pub laid : s .laid ≡ t .laid
+  pub playing : s .playing ≡ t .playing
+  pub layouts : (i : ℕ) → i < s .laid → layoutAt s i ≡ layoutAt t i
+  pub sessions : (i : ℕ) → i < s .playing → sessionAt s i ≡ sessionAt t i

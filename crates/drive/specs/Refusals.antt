@@ -1,4 +1,4 @@
--- The number and the place of each refusal: document 01, "Numbers we say no with".
+-- The number and the place of each refusal: docs/RULES.md, section 4.
 use Prim.Native.Nat.{ℕ}
 use Rattle.drive.specs.declared.refusal.Told.{Told}
 use Rattle.drive.specs.declared.refusal.Refusal.{Refusal}

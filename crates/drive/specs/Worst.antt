@@ -1,5 +1,5 @@
 -- What a session's operations cost, and what the calls for the worst time answer.
-use Prim.Native.Nat.{ℕ, _+_, _*_, _≤_, _<_}
+use Prim.Native.Nat.{ℕ, _+_, _*_}
 use mathlib.Core.Logic.{ite, Dec·and}
 use native.Mathlib.Decide.{decLe, decLt}
 use Rattle.drive.specs.Limits.{layoutAt, sessionAt}

@@ -1,6 +1,5 @@
-// The worst time of an operation: U of document 01.
+// The worst time of an operation: U of docs/RULES.md, section 3.
 ghost use mathlib.Core.Path.{_≡_};
-ghost use Prim.Native.Nat.{_≤_};
 ghost use Rattle.drive.specs.Limits.{Tells, sessionAt, layoutAt};
 ghost use Rattle.drive.specs.Bound.{Limited, edges, worstTime};
 ghost use Rattle.drive.specs.Worst.{readCost, costOf, timeOf, worstOf};

@@ -4,12 +4,12 @@ pub mod refusal;
 
 ghost use mathlib.Core.Path.{_≡_};
 ghost use Prim.Native.Nat.{_≤_};
-ghost use Rattle.drive.specs.Limits.{Tells, DriveWithin, LayoutWithin, SessionWithin, CountsWithin, sessionAt, layoutAt};
-ghost use Rattle.drive.specs.Checks.{layoutsCheck, sessionsCheck, limitsCheck, showCheck};
+ghost use Rattle.drive.specs.Limits.{Tells, DriveWithin, LayoutWithin, SessionWithin, CountsWithin};
+ghost use Rattle.drive.specs.Checks.{layoutsCheck, sessionsCheck, showCheck};
 use crate::refusal::Check;
 use crate::refusal::Refusal;
 
-// A and N of document 01: bytes in a block, blocks on a cylinder.
+// A and N of the rules: bytes in a block, blocks on a cylinder.
 pub struct Drive {
     pub block: u32,
     pub cylinder: u32,

@@ -1,4 +1,4 @@
-// The numbers we say no with.
+// The numbers we say no with: docs/RULES.md, section 4.
 ghost use mathlib.Core.Path.{_≡_};
 ghost use Rattle.drive.specs.Refusals.{toldOf};
 
@@ -31,7 +31,7 @@ pub enum Check {
     Refused(Refusal),
 }
 
-// How a refusal is told: document 01's number, and the place, which is 0 but for 6 and 7.
+// How a refusal is told: its number, and the place, which is 0 but for 6 and 7.
 pub struct Told {
     pub number: u32,
     pub place: usize,

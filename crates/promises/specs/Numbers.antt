@@ -1,5 +1,4 @@
--- The worked numbers of document 01, "Numbers to hold against it", as one statement over one table. proofs/Table.antt proves it.
-use Prim.Native.Nat.{ℕ}
+-- The worked numbers of docs/RULES.md, section 5, as one statement over one table. proofs/Table.antt proves it.
 use mathlib.Core.Path.{_≡_}
 use mathlib.Core.List.{List, [], _∷_, _++_}
 use lib.ListN.{length, replicate, take}

@@ -1,18 +1,13 @@
 -- `check_layouts` finds the lowest layout outside its limits. Invariant: no layout below i is refused; what falls: laid - i.
 -- Assumes nothing.
 use Prim.Native.Nat.{_-_}
-use native.Mathlib.Omega.{arith}
 use borrow.Author.Needs.{needs}
 use borrow.Author.Tests.{not-true, not-false}
 use Rattle.drive.specs.declared.refusal.Refusal.the-variants.{LayoutLimits}
-use Rattle.drive.specs.Limits.{Tells, LayoutWithin, layoutAt}
 use Rattle.drive.specs.Checks.{layout?, layoutCheck}
 use Rattle.drive.proofs.Checks.{SoFar, begun, body, stopped, ended, kept-if, broken-if}
 use Rattle.drive.proofs.Show.check_layouts.Statement.{statement}
 use Rattle.drive.proofs.Show.check_layouts.Tie as tie
-use Rattle.drive.proofs.Show.check_layouts.Reads as reads
-use Rattle.drive.proofs.Show.check_layouts.Lts as lts
-use Rattle.drive.proofs.Layout.within.Reads as within-reads
 
 abbrev Inv-loop : tie.InvT-loop
 Inv-loop self i₀ i = SoFar (layoutCheck self) (self .laid) i

@@ -1,18 +1,13 @@
 -- `check_sessions` finds the lowest session outside its limits. Invariant: no session below i is refused; what falls: playing - i.
 -- Assumes nothing.
 use Prim.Native.Nat.{_-_}
-use native.Mathlib.Omega.{arith}
 use borrow.Author.Needs.{needs}
 use borrow.Author.Tests.{not-true, not-false}
 use Rattle.drive.specs.declared.refusal.Refusal.the-variants.{SessionLimits}
-use Rattle.drive.specs.Limits.{Tells, SessionWithin, sessionAt}
 use Rattle.drive.specs.Checks.{session?, sessionCheck}
 use Rattle.drive.proofs.Checks.{SoFar, begun, body, stopped, ended, kept-if, broken-if}
 use Rattle.drive.proofs.Show.check_sessions.Statement.{statement}
 use Rattle.drive.proofs.Show.check_sessions.Tie as tie
-use Rattle.drive.proofs.Show.check_sessions.Reads as reads
-use Rattle.drive.proofs.Show.check_sessions.Lts as lts
-use Rattle.drive.proofs.Session.within.Reads as within-reads
 
 abbrev Inv-loop : tie.InvT-loop
 Inv-loop self i₀ i = SoFar (sessionCheck self) (self .playing) i

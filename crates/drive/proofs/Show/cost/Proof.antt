@@ -1,5 +1,5 @@
 -- `cost` answers what a session's operations cost. Assumes nothing.
-use mathlib.Core.Path.{_≡_, ap, _∙_}
+use mathlib.Core.Path.{ap, _∙_}
 use borrow.Author.Needs.{needs}
 use Rattle.drive.specs.declared.Session.{Session}
 use Rattle.drive.specs.Limits.{layoutAt}

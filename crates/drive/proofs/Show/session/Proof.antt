@@ -3,7 +3,6 @@ use mathlib.Core.Path.{_≡_, sym}
 use native.Mathlib.Omega.{arith}
 use borrow.Author.Needs.{needs}
 use lib.ListN.{length, List·getD-eq-default}
-use Rattle.drive.specs.Limits.{sessionAt}
 use Rattle.drive.proofs.Lists.{unmapped}
 use Rattle.drive.proofs.Show.session.Statement.{statement}
 use Rattle.drive.proofs.Show.session.Tie as tie

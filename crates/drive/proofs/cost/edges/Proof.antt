@@ -1,5 +1,5 @@
 -- `edges` answers n/N rounded up. Assumes nothing.
-use mathlib.Core.Path.{_≡_, refl, sym, ap, _∙_}
+use mathlib.Core.Path.{refl, sym, ap, _∙_}
 use Prim.Native.Nat.{ℕ}
 use borrow.Author.Needs.{needs}
 use Rattle.drive.specs.Bound.{ceil, edges}

@@ -1,6 +1,4 @@
 -- `bound` answers U of a cost within its limits: neither product nor sum overflows. Assumes nothing.
-use Prim.Native.Nat.{_^_}
-use mathlib.Core.Path.{refl}
 use native.Mathlib.Omega.{arith}
 use borrow.Author.Needs.{needs}
 use Rattle.drive.specs.Bound.{edges, worstTime}

@@ -1,5 +1,5 @@
 -- `time` answers U, or that the cost is beyond its limits. Assumes nothing.
-use mathlib.Core.Path.{_≡_, sym, ap, _∙_}
+use mathlib.Core.Path.{sym, ap, _∙_}
 use mathlib.Core.Logic.{if-pos, if-neg}
 use borrow.Author.Needs.{needs}
 use borrow.Author.Tests.{not-true, not-false}
