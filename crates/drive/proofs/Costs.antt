@@ -17,7 +17,8 @@ use Rattle.drive.specs.declared.refusal.Refusal.the-variants.{NoSession}
 use Rattle.drive.specs.Limits.{LayoutWithin, ShowWithin, Alike, layoutAt, sessionAt}
 use Rattle.drive.specs.Checks.{unless, showCheck}
 use Rattle.drive.specs.Bound.{Modest, Limited, Cheaper, BoundLaws, ceil, edges, worstTime, weight, spareOf}
-use Rattle.drive.specs.Worst.{readCost, costOf, limited?, timeOf, worstOf}
+use Rattle.drive.specs.Decisions.{limited?}
+use Rattle.drive.specs.Worst.{readCost, costOf, timeOf, worstOf}
 use Rattle.drive.proofs.Checks.{unless-kept, unless-broken}
 use Rattle.drive.proofs.Bound.{worst-laws}
 use Rattle.drive.proofs.Shows.{check-within, alike-check}

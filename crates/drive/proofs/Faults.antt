@@ -7,7 +7,8 @@ use Rattle.drive.specs.declared.refusal.Check.the-variants.{Within, Refu
 use Rattle.drive.specs.declared.refusal.Refusal.{Refusal}
 use Rattle.drive.specs.declared.refusal.Refusal.the-variants.{Counts, DriveLimits, LayoutLimits, SessionLimits}
 use Rattle.drive.specs.Limits.{CountsWithin, DriveWithin, layoutAt, sessionAt}
-use Rattle.drive.specs.Checks.{counts?, drive?, layout?, session?, unless, first, firstBelow, layoutCheck, layoutsCheck, sessionsCheck, showCheck}
+use Rattle.drive.specs.Decisions.{counts?, drive?, layout?, session?}
+use Rattle.drive.specs.Checks.{unless, first, firstBelow, layoutCheck, layoutsCheck, sessionsCheck, showCheck}
 use Rattle.drive.specs.Faults.{Lowest, LaidWithin, PlayingWithin, Fault, counts, drive, layout, session}
 use Rattle.drive.proofs.Checks.{unless-kept, unless-broken, unless-within, unless-refused, first-within, first-refused, below-at, below-all, below-stops, below-lowest}
 

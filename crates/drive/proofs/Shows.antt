@@ -5,7 +5,8 @@ use Rattle.drive.specs.declared.Show.{Show}
 use Rattle.drive.specs.declared.refusal.Check.the-variants.{Within}
 use Rattle.drive.specs.declared.refusal.Refusal.the-variants.{Counts, DriveLimits, LayoutLimits, SessionLimits}
 use Rattle.drive.specs.Limits.{ShowWithin, Alike, layoutAt, sessionAt}
-use Rattle.drive.specs.Checks.{counts?, drive?, layout?, session?, first, countsCheck, driveCheck, layoutCheck, layoutsCheck, sessionCheck, sessionsCheck, limitsCheck, showCheck}
+use Rattle.drive.specs.Decisions.{counts?, drive?, layout?, session?}
+use Rattle.drive.specs.Checks.{first, countsCheck, driveCheck, layoutCheck, layoutsCheck, sessionCheck, sessionsCheck, limitsCheck, showCheck}
 use Rattle.drive.proofs.Checks.{unless-kept, unless-within, first-within, first-left, first-right, below-at, below-all, below-same}
 
 -- A show passes exactly if it is within every limit.

@@ -1,6 +1,7 @@
 pub mod Limits
+pub mod Bound
+pub mod Decisions
 pub mod Refusals
 pub mod Checks
-pub mod Bound
-pub mod Worst
 pub mod Faults
+pub mod Worst

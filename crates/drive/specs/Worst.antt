@@ -1,10 +1,11 @@
 -- What a session's operations cost, and what the calls for the worst time answer.
 use Prim.Native.Nat.{ℕ, _+_, _*_}
-use mathlib.Core.Logic.{ite, Dec·and}
-use native.Mathlib.Decide.{decLe, decLt}
+use mathlib.Core.Logic.{ite}
+use native.Mathlib.Decide.{decLt}
 use Rattle.drive.specs.Limits.{layoutAt, sessionAt}
-use Rattle.drive.specs.Checks.{decided, first, unless, showCheck}
-use Rattle.drive.specs.Bound.{Limited, worstTime}
+use Rattle.drive.specs.Checks.{first, unless, showCheck}
+use Rattle.drive.specs.Bound.{worstTime}
+use Rattle.drive.specs.Decisions.{limited?}
 use Rattle.drive.specs.declared.Layout.{Layout}
 use Rattle.drive.specs.declared.Show.{Show}
 use Rattle.drive.specs.declared.cost.Cost.{Cost}
@@ -23,12 +24,6 @@ readCost y = record { fixed = y .longest + 2 * y .rotation; each = y .time; cros
 -- A session's operations are reads on its layout.
 unfoldable pub costOf : Show → ℕ → Cost
 costOf s i = readCost (layoutAt s (sessionAt s i .layout))
-
-unfoldable pub limited? : (c : Cost) → Dec (Limited c)
-unfolding Dec·and decLe
-limited? c =
-    decided (λ h. record { fixed = h .0; each = h .1 .0; cross = h .1 .1 }) (λ b. (b .fixed, (b .each, b .cross)))
-    (Dec·and (decLe (c .fixed) 5000000) (Dec·and (decLe (c .each) 3000000) (decLe (c .cross) 1000000)))
 
 -- U(n) of a cost within its limits
 unfoldable pub timeOf : Cost → ℕ → ℕ → Time

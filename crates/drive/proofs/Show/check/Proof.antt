@@ -6,7 +6,8 @@ use Rattle.drive.specs.declared.Show.{Show}
 use Rattle.drive.specs.declared.refusal.Refusal.the-variants.{Counts, DriveLimits}
 use Rattle.drive.specs.declared.refusal.Check.the-variants.{Within}
 use Rattle.drive.specs.Limits.{CountsWithin}
-use Rattle.drive.specs.Checks.{counts?, drive?, countsCheck, driveCheck, showCheck}
+use Rattle.drive.specs.Decisions.{counts?, drive?}
+use Rattle.drive.specs.Checks.{countsCheck, driveCheck, showCheck}
 use Rattle.drive.proofs.Checks.{tells-yes, kept-if, broken-if, first-refused, first-within}
 use Rattle.drive.proofs.Show.check.Statement.{statement}
 use Rattle.drive.proofs.Show.check.Tie as tie

@@ -4,7 +4,8 @@ use Prim.Native.Nat.{_-_}
 use borrow.Author.Needs.{needs}
 use borrow.Author.Tests.{not-true, not-false}
 use Rattle.drive.specs.declared.refusal.Refusal.the-variants.{LayoutLimits}
-use Rattle.drive.specs.Checks.{layout?, layoutCheck}
+use Rattle.drive.specs.Decisions.{layout?}
+use Rattle.drive.specs.Checks.{layoutCheck}
 use Rattle.drive.proofs.Checks.{SoFar, begun, body, stopped, ended, kept-if, broken-if}
 use Rattle.drive.proofs.Show.check_layouts.Statement.{statement}
 use Rattle.drive.proofs.Show.check_layouts.Tie as tie

@@ -4,7 +4,8 @@ use Prim.Native.Nat.{_-_}
 use borrow.Author.Needs.{needs}
 use borrow.Author.Tests.{not-true, not-false}
 use Rattle.drive.specs.declared.refusal.Refusal.the-variants.{SessionLimits}
-use Rattle.drive.specs.Checks.{session?, sessionCheck}
+use Rattle.drive.specs.Decisions.{session?}
+use Rattle.drive.specs.Checks.{sessionCheck}
 use Rattle.drive.proofs.Checks.{SoFar, begun, body, stopped, ended, kept-if, broken-if}
 use Rattle.drive.proofs.Show.check_sessions.Statement.{statement}
 use Rattle.drive.proofs.Show.check_sessions.Tie as tie

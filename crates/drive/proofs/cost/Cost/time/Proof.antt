@@ -5,7 +5,8 @@ use borrow.Author.Needs.{needs}
 use borrow.Author.Tests.{not-true, not-false}
 use Rattle.drive.specs.declared.cost.Time.the-variants.{Takes, Beyond}
 use Rattle.drive.specs.Bound.{Limited}
-use Rattle.drive.specs.Worst.{limited?, timeOf}
+use Rattle.drive.specs.Decisions.{limited?}
+use Rattle.drive.specs.Worst.{timeOf}
 use Rattle.drive.proofs.Checks.{tells-yes, tells-no}
 use Rattle.drive.proofs.cost.Cost.time.Statement.{statement}
 use Rattle.drive.proofs.cost.Cost.time.Tie as tie
