@@ -29,6 +29,7 @@ costOf s i = readCost (layoutAt s (sessionAt s i .layout))
 unfoldable pub timeOf : Cost → ℕ → ℕ → Time
 timeOf c N n = ite (limited? c) (time.Takes (worstTime N c n)) time.Beyond
 
+-- the time, unless a test refused
 abbrev pub answered : Check → ℕ → Worst
 answered Within t = worst.Takes t
 answered (Refused w) t = worst.Refused w

@@ -154,7 +154,7 @@ impl Show {
     pub const PLAYING_MOST: usize = 16;
 
     // The test of refusal 2 alone, for whoever has the counts before the show.
-    pub fn counted(laid: usize, playing: usize) -> bool
+    pub fn counts_within(laid: usize, playing: usize) -> bool
         ensures { λ r. ⌜ Tells r (CountsWithin laid playing) ⌝ }
     {
         if laid < Show::LAID_LEAST {
@@ -173,7 +173,7 @@ impl Show {
     pub fn check(self) -> Check
         ensures { λ r. ⌜ r ≡ showCheck self ⌝ }
     {
-        if !Show::counted(self.laid, self.playing) {
+        if !Show::counts_within(self.laid, self.playing) {
             return Check::Refused(Refusal::Counts);
         }
         if !self.drive.within() {

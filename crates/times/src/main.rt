@@ -166,7 +166,7 @@ fn layouts() {
     on_layout(layout(5, 5, 1, 1000001));
 }
 
-// The layout stands at place 3, and every session is on it.
+// The layout stands at place 3, and session 5 is on it.
 fn on_layout(y: Layout) {
     let mut s = sample();
     s.layouts[3] = y;

@@ -16,21 +16,21 @@ abbrev show : tie.Else1 → Show
 show c = c .before .before .args .self
 
 within : (c : tie.Else1) → CountsWithin (show c .laid) (show c .playing)
-within c = tells-yes _ (c .before .counted .result) (not-false _ (c .if1 .left)) (c .before .counted .ensures)
+within c = tells-yes _ (c .before .counts-within .result) (not-false _ (c .if1 .left)) (c .before .counts-within .ensures)
 
 counts : (c : tie.Else1) → countsCheck (show c .laid) (show c .playing) ≡ Within
-counts c = kept-if (counts? _ _) Counts (c .before .counted .result) (not-false _ (c .if1 .left)) (c .before .counted .ensures)
+counts c = kept-if (counts? _ _) Counts (c .before .counts-within .result) (not-false _ (c .if1 .left)) (c .before .counts-within .ensures)
 
 drive : (c : tie.Else2) → driveCheck (show (c .before .before) .drive) ≡ Within
 drive c = kept-if (drive? _) DriveLimits (c .before .within .result) (not-false _ (c .if2 .left)) (c .before .within .ensures)
 
-counted-requires : tie.Need-counted-requires
-counted-requires c κs = search needs
+counts-within-requires : tie.Need-counts-within-requires
+counts-within-requires c κs = search needs
 
 returns : tie.Need-returns
 unfolding showCheck
 returns c =
-    sym (first-refused _ _ (broken-if (counts? _ _) Counts (c .before .counted .result) (not-true _ (c .if1 .taken)) (c .before .counted .ensures)))
+    sym (first-refused _ _ (broken-if (counts? _ _) Counts (c .before .counts-within .result) (not-true _ (c .if1 .taken)) (c .before .counts-within .ensures)))
 
 within-requires : tie.Need-within-requires
 within-requires c κs = search needs
@@ -72,7 +72,7 @@ pub check-spec : {M : Type 1} → statement M
 check-spec =
     tie.close
     (tie.spec
-    counted-requires
+    counts-within-requires
     returns
     within-requires
     returns-2
