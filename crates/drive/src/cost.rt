@@ -50,6 +50,7 @@ impl Cost {
         true
     }
 
+    // U(n), which fits 64 bits for every count.
     fn bound(self, cylinder: u32, n: u32) -> u64
         requires { ⌜ Limited self ⌝ }
         ensures { λ r. ⌜ r ≡ worstTime cylinder self n ⌝ }
@@ -81,6 +82,7 @@ fn edges(cylinder: u32, n: u32) -> u64
     (n as u64 + per - 1) / per
 }
 
+// A read seeks far and waits for two rotations once.
 fn read_cost(layout: Layout) -> Cost
     ensures { λ r. ⌜ r ≡ readCost layout ⌝ }
 {
@@ -92,10 +94,11 @@ fn read_cost(layout: Layout) -> Cost
 }
 
 impl Show {
+    // What stands at a place; past the last, zeros.
     fn session(self, i: usize) -> Session
         ensures { λ r. ⌜ r ≡ sessionAt self i ⌝ }
     {
-        if i < 16 {
+        if i < Show::PLAYING_MOST {
             return self.sessions[i];
         }
         Session {
@@ -109,7 +112,7 @@ impl Show {
     fn layout(self, i: usize) -> Layout
         ensures { λ r. ⌜ r ≡ layoutAt self i ⌝ }
     {
-        if i < 8 {
+        if i < Show::LAID_MOST {
             return self.layouts[i];
         }
         Layout {
