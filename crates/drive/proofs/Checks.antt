@@ -71,13 +71,6 @@ first-right (Refused w) y e = within-refused (sym e)
 
 -- ---- the first refusal of the places below n
 
--- The lowest place below n where a test refuses, and with what.
-pub record LowestRefusal (test : ℕ → Check) (n : ℕ) (w : Refusal) : Type 0 where
-  pub at : ℕ
-  pub inside : at < n
-  pub before : (k : ℕ) → k < at → test k ≡ Within
-  pub refuses : test at ≡ Refused w
-
 module _ (test : ℕ → Check) where
   pub below-none : firstBelow test 0 ≡ Within
   unfolding firstBelow
@@ -112,20 +105,6 @@ module _ (test : ℕ → Check) where
   below-all zero h = refl
   below-all (suc n) h =
       first-within _ _ (below-all n (λ i l. h i (omega arith))) ∙ h n (omega arith)
-
-  -- a refusal is that of the lowest offender
-  pub below-lowest : (n : ℕ) {w : Refusal} → firstBelow test n ≡ Refused w → LowestRefusal test n w
-  unfolding firstBelow
-  below-lowest zero e = within-refused e
-  below-lowest (suc n) {w} e = from (firstBelow test n) refl e (λ h. below-lowest n h)
-    where
-      from :
-          (x : Check) → firstBelow test n ≡ x → first x (test n) ≡ Refused w →
-          (firstBelow test n ≡ Refused w → LowestRefusal test n w) → LowestRefusal test (suc n) w
-      from Within p q more = record { at = n; inside = omega arith; before = below-at n p; refuses = q }
-      from (Refused v) p q more =
-          let r = more (p ∙ q) in
-          record { at = r .at; inside = (let l = r .inside in omega arith); before = r .before; refuses = r .refuses }
 
 -- A loop over the places below n that has come to i: nothing is refused so far.
 pub record SoFar (test : ℕ → Check) (n i : ℕ) : Type 0 where

@@ -1,4 +1,5 @@
 pub mod Checks
+pub mod Rows
 pub mod Ceil
 pub mod Edges
 pub mod Bound

@@ -1,40 +1,54 @@
--- What the test of a show says: within exactly if every limit is kept; each refusal with its reason; nothing above a count is
--- looked at. Assumes nothing.
+-- What the test of a show says: it passes exactly if every limit is kept, and nothing above a count is looked at. Assumes nothing.
+use Prim.Native.Nat.{ℕ, _<_}
 use mathlib.Core.Path.{_≡_, _∙_}
 use Rattle.drive.specs.declared.Show.{Show}
 use Rattle.drive.specs.declared.refusal.Check.the-variants.{Within}
 use Rattle.drive.specs.declared.refusal.Refusal.the-variants.{Counts, DriveLimits, LayoutLimits, SessionLimits}
-use Rattle.drive.specs.Limits.{ShowWithin, Alike, layoutAt, sessionAt}
+use Rattle.drive.specs.Limits.{CountsWithin, DriveWithin, LaidWithin, PlayingWithin, ShowWithin, Alike, layoutAt, sessionAt}
 use Rattle.drive.specs.Decisions.{counts?, drive?, layout?, session?}
 use Rattle.drive.specs.Checks.{first, countsCheck, driveCheck, layoutCheck, layoutsCheck, sessionCheck, sessionsCheck, limitsCheck, showCheck}
-use Rattle.drive.proofs.Checks.{unless-kept, unless-within, first-within, first-left, first-right, below-at, below-all, below-same}
+use Rattle.drive.proofs.Checks.{unless-kept, unless-within, first-within, first-left, first-right, below-same}
+use Rattle.drive.proofs.Rows.{row-within, row-kept}
 
--- A show passes exactly if it is within every limit.
-pub check-within : (s : Show) → showCheck s ≡ Within → ShowWithin s
-unfolding showCheck
-check-within s e =
-    let limits = first-right (countsCheck (s .laid) (s .playing)) (limitsCheck s) e in
-    let rows = first-right (driveCheck (s .drive)) (first (layoutsCheck s) (sessionsCheck s)) limits in
-    record {
-      counts = unless-within (counts? (s .laid) (s .playing)) Counts (first-left (countsCheck (s .laid) (s .playing)) (limitsCheck s) e);
-      drive = unless-within (drive? (s .drive)) DriveLimits (first-left (driveCheck (s .drive)) (first (layoutsCheck s) (sessionsCheck s)) limits);
-      layouts = λ i l.
-          unless-within (layout? (layoutAt s i)) (LayoutLimits i)
-          (below-at (layoutCheck s) (s .laid) (first-left (layoutsCheck s) (sessionsCheck s) rows) i l);
-      sessions = λ i l.
-          unless-within (session? (s .laid) (sessionAt s i)) (SessionLimits i)
-          (below-at (sessionCheck s) (s .playing) (first-right (layoutsCheck s) (sessionsCheck s) rows) i l);
-    }
+module _ (s : Show) where
+  -- Where 2 and 5 are passed, 6 and 7 are left.
+  pub rows-left :
+      CountsWithin (s .laid) (s .playing) → DriveWithin (s .drive) → showCheck s ≡ first (layoutsCheck s) (sessionsCheck s)
+  unfolding showCheck
+  rows-left c d =
+      first-within _ _ (unless-kept (counts? (s .laid) (s .playing)) Counts c)
+      ∙ first-within _ _ (unless-kept (drive? (s .drive)) DriveLimits d)
 
-pub within-check : (s : Show) → ShowWithin s → showCheck s ≡ Within
-unfolding showCheck
-within-check s w =
-    first-within _ _ (unless-kept (counts? (s .laid) (s .playing)) Counts (w .counts))
-    ∙ first-within _ _ (unless-kept (drive? (s .drive)) DriveLimits (w .drive))
-    ∙ first-within _ _ (below-all (layoutCheck s) (s .laid) (λ i l. unless-kept (layout? (layoutAt s i)) (LayoutLimits i) (w .layouts i l)))
-    ∙ below-all (sessionCheck s) (s .playing) (λ i l. unless-kept (session? (s .laid) (sessionAt s i)) (SessionLimits i) (w .sessions i l))
+  pub layouts-within : layoutsCheck s ≡ Within → (i : ℕ) → i < s .laid → LaidWithin s i
+  layouts-within = row-within (LaidWithin s) (λ i. layout? (layoutAt s i)) LayoutLimits (s .laid)
 
--- Places above a count are not looked at: such shows get the same answer.
+  pub layouts-kept : ((i : ℕ) → i < s .laid → LaidWithin s i) → layoutsCheck s ≡ Within
+  layouts-kept = row-kept (LaidWithin s) (λ i. layout? (layoutAt s i)) LayoutLimits (s .laid)
+
+  sessions-within : sessionsCheck s ≡ Within → (i : ℕ) → i < s .playing → PlayingWithin s i
+  sessions-within = row-within (PlayingWithin s) (λ i. session? (s .laid) (sessionAt s i)) SessionLimits (s .playing)
+
+  sessions-kept : ((i : ℕ) → i < s .playing → PlayingWithin s i) → sessionsCheck s ≡ Within
+  sessions-kept = row-kept (PlayingWithin s) (λ i. session? (s .laid) (sessionAt s i)) SessionLimits (s .playing)
+
+  -- A show passes exactly if it is within every limit.
+  pub check-within : showCheck s ≡ Within → ShowWithin s
+  unfolding showCheck
+  check-within e =
+      let limits = first-right (countsCheck (s .laid) (s .playing)) (limitsCheck s) e in
+      let rows = first-right (driveCheck (s .drive)) (first (layoutsCheck s) (sessionsCheck s)) limits in
+      record {
+        counts = unless-within (counts? (s .laid) (s .playing)) Counts (first-left (countsCheck (s .laid) (s .playing)) (limitsCheck s) e);
+        drive = unless-within (drive? (s .drive)) DriveLimits (first-left (driveCheck (s .drive)) (first (layoutsCheck s) (sessionsCheck s)) limits);
+        layouts = layouts-within (first-left (layoutsCheck s) (sessionsCheck s) rows);
+        sessions = sessions-within (first-right (layoutsCheck s) (sessionsCheck s) rows);
+      }
+
+  pub within-check : ShowWithin s → showCheck s ≡ Within
+  within-check w =
+      rows-left (w .counts) (w .drive) ∙ first-within _ _ (layouts-kept (w .layouts)) ∙ sessions-kept (w .sessions)
+
+-- Places above a count are not looked at: shows that agree below their counts get the same answer.
 pub alike-check : (s t : Show) → Alike s t → showCheck s ≡ showCheck t
 unfolding showCheck
 alike-check s t a =

@@ -1,6 +1,6 @@
 -- What a refusal of a show tells: the limits of the numbers before its own are kept, its own is not, and its place is the lowest offender's.
 use Prim.Native.Nat.{ℕ, _<_}
-use Rattle.drive.specs.Limits.{CountsWithin, DriveWithin, LayoutWithin, SessionWithin, layoutAt, sessionAt}
+use Rattle.drive.specs.Limits.{CountsWithin, DriveWithin, LaidWithin, PlayingWithin}
 use Rattle.drive.specs.declared.Show.{Show}
 use Rattle.drive.specs.declared.refusal.Refusal.{Refusal}
 use Rattle.drive.specs.declared.refusal.Refusal.the-variants.{Counts, DriveLimits, LayoutLimits, SessionLimits}
@@ -10,13 +10,6 @@ pub record Lowest (p : ℕ → Type 0) (n i : ℕ) : Type 0 where
   pub inside : i < n
   pub before : (k : ℕ) → k < i → p k
   pub fails : p i → ⊥
-
--- The used layouts, and the used sessions, are within their limits, place by place.
-abbrev pub LaidWithin : Show → ℕ → Type 0
-LaidWithin s i = LayoutWithin (layoutAt s i)
-
-abbrev pub PlayingWithin : Show → ℕ → Type 0
-PlayingWithin s i = SessionWithin (s .laid) (sessionAt s i)
 
 -- 2, 5, 6 and 7, in this order, and no other number.
 pub data Fault (s : Show) : Refusal → Type 0 where

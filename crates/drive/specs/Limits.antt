@@ -56,12 +56,19 @@ layoutAt s i = getD (s .layouts) i noLayout
 abbrev pub sessionAt : Show → ℕ → Session
 sessionAt s i = getD (s .sessions) i noSession
 
+-- The layout, and the session, at a place is within its limits.
+abbrev pub LaidWithin : Show → ℕ → Type 0
+LaidWithin s i = LayoutWithin (layoutAt s i)
+
+abbrev pub PlayingWithin : Show → ℕ → Type 0
+PlayingWithin s i = SessionWithin (s .laid) (sessionAt s i)
+
 -- A show within every limit. Places above a count are not looked at.
 pub record ShowWithin (s : Show) : Type 0 where
   pub counts : CountsWithin (s .laid) (s .playing)
   pub drive : DriveWithin (s .drive)
-  pub layouts : (i : ℕ) → i < s .laid → LayoutWithin (layoutAt s i)
-  pub sessions : (i : ℕ) → i < s .playing → SessionWithin (s .laid) (sessionAt s i)
+  pub layouts : (i : ℕ) → i < s .laid → LaidWithin s i
+  pub sessions : (i : ℕ) → i < s .playing → PlayingWithin s i
 
 -- Two shows that agree below their counts.
 pub record Alike (s t : Show) : Type 0 where

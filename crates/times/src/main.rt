@@ -16,6 +16,7 @@ fn main() {
     sessions();
     counts();
     orders();
+    full();
 }
 
 fn number(n: u64) {
@@ -244,6 +245,18 @@ fn orders() {
     asked(s, 0);
     s.playing = 17;
     asked(s, 0);
+}
+
+// Every place is used: eight layouts, sixteen sessions on the last of them.
+fn full() {
+    let mut s = sample();
+    s.layouts = [layout(30000, 1000, 5000, 4000); 8];
+    s.laid = 8;
+    s.sessions = [session(100, 1, 1000, 7); 16];
+    s.playing = 16;
+    asked(s, 0);
+    asked(s, 15);
+    asked(s, 16);
 }
 
 fn asked(s: Show, i: usize) {

@@ -4,25 +4,25 @@ use borrow.Author.Needs.{needs}
 use borrow.Author.Tests.{not-true, not-false}
 use Rattle.drive.specs.declared.Show.{Show}
 use Rattle.drive.specs.declared.refusal.Refusal.the-variants.{Counts, DriveLimits}
-use Rattle.drive.specs.declared.refusal.Check.the-variants.{Within}
 use Rattle.drive.specs.Limits.{CountsWithin}
 use Rattle.drive.specs.Decisions.{counts?, drive?}
-use Rattle.drive.specs.Checks.{countsCheck, driveCheck, showCheck}
-use Rattle.drive.proofs.Checks.{tells-yes, kept-if, broken-if, first-refused, first-within}
+use Rattle.drive.specs.Checks.{first, layoutsCheck, sessionsCheck, showCheck}
+use Rattle.drive.proofs.Checks.{tells-yes, unless-kept, broken-if, first-refused, first-within}
+use Rattle.drive.proofs.Shows.{rows-left}
 use Rattle.drive.proofs.Show.check.Statement.{statement}
 use Rattle.drive.proofs.Show.check.Tie as tie
 
 abbrev show : tie.Else1 → Show
 show c = c .before .before .args .self
 
-within : (c : tie.Else1) → CountsWithin (show c .laid) (show c .playing)
-within c = tells-yes _ (c .before .counts-within .result) (not-false _ (c .if1 .left)) (c .before .counts-within .ensures)
+counts : (c : tie.Else1) → CountsWithin (show c .laid) (show c .playing)
+counts c = tells-yes _ (c .before .counts-within .result) (not-false _ (c .if1 .left)) (c .before .counts-within .ensures)
 
-counts : (c : tie.Else1) → countsCheck (show c .laid) (show c .playing) ≡ Within
-counts c = kept-if (counts? _ _) Counts (c .before .counts-within .result) (not-false _ (c .if1 .left)) (c .before .counts-within .ensures)
-
-drive : (c : tie.Else2) → driveCheck (show (c .before .before) .drive) ≡ Within
-drive c = kept-if (drive? _) DriveLimits (c .before .within .result) (not-false _ (c .if2 .left)) (c .before .within .ensures)
+rows : (c : tie.Else2) →
+    showCheck (show (c .before .before)) ≡ first (layoutsCheck (show (c .before .before))) (sessionsCheck (show (c .before .before)))
+rows c =
+    rows-left _ (counts (c .before .before))
+    (tells-yes _ (c .before .within .result) (not-false _ (c .if2 .left)) (c .before .within .ensures))
 
 counts-within-requires : tie.Need-counts-within-requires
 counts-within-requires c κs = search needs
@@ -38,34 +38,30 @@ within-requires c κs = search needs
 returns-2 : tie.Need-returns-2
 unfolding showCheck
 returns-2 c =
-    sym (first-within _ _ (counts (c .before .before))
+    sym (first-within _ _ (unless-kept (counts? _ _) Counts (counts (c .before .before)))
     ∙ first-refused _ _ (broken-if (drive? _) DriveLimits (c .before .within .result) (not-true _ (c .if2 .taken)) (c .before .within .ensures)))
 
 check-layouts-requires : tie.Need-check-layouts-requires
-check-layouts-requires c κs = within (c .before .before) .layouts .high
+check-layouts-requires c κs = counts (c .before .before) .layouts .high
 
 enum-known-layouts : tie.Need-enum-known-layouts
 enum-known-layouts c = search needs
 
 returns-3 : tie.Need-returns-3
-unfolding showCheck
 returns-3 c =
-    let d = c .before .before .before .before in
-    sym (first-within _ _ (counts (d .before .before)) ∙ first-within _ _ (drive d)
+    sym (rows (c .before .before .before .before)
     ∙ first-refused _ _ (sym (c .before .before .before .check-layouts .ensures) ∙ c .before .layouts .given .1))
 
 enum-told : tie.Need-enum-told
 enum-told c = search needs
 
 check-sessions-requires : tie.Need-check-sessions-requires
-check-sessions-requires c κs = within (c .before .before .before .before .before) .sessions
+check-sessions-requires c κs = counts (c .before .before .before .before .before) .sessions
 
 returns-4 : tie.Need-returns-4
-unfolding showCheck
 returns-4 c =
-    let d = c .before .before .before .before in
     c .check-sessions .ensures
-    ∙ sym (first-within _ _ (counts (d .before .before)) ∙ first-within _ _ (drive d)
+    ∙ sym (rows (c .before .before .before .before)
     ∙ first-within _ _ (sym (c .before .before .before .check-layouts .ensures) ∙ c .before .enum-told .given .1))
 
 pub check-spec : {M : Type 1} → statement M

@@ -1,9 +1,8 @@
 -- `layout` answers what stands at a place, and zeros past the last. Assumes nothing.
-use mathlib.Core.Path.{_≡_, sym}
-use native.Mathlib.Omega.{arith}
+use mathlib.Core.Path.{_≡_}
 use borrow.Author.Needs.{needs}
-use lib.ListN.{length, List·getD-eq-default}
-use Rattle.drive.proofs.Lists.{unmapped}
+use lib.ListN.{length}
+use Rattle.drive.proofs.Lists.{unmapped, past-last}
 use Rattle.drive.proofs.Show.layout.Statement.{statement}
 use Rattle.drive.proofs.Show.layout.Tie as tie
 
@@ -20,7 +19,7 @@ returns : tie.Need-returns
 returns c = search needs
 
 returns-2 : tie.Need-returns-2
-returns-2 c = sym (List·getD-eq-default (c .before .args .t1 .layouts) _ {n = c .before .args .i} (omega (arith, places (c .before))))
+returns-2 c = past-last (c .before .args .t1 .layouts) _ 8 _ (places (c .before)) (c .if1 .left)
 
 pub layout-spec : {M : Type 1} → statement M
 layout-spec = tie.close (tie.spec mul-result element-copy-out-result returns returns-2)

@@ -1,9 +1,8 @@
 -- `session` answers what stands at a place, and zeros past the last. Assumes nothing.
-use mathlib.Core.Path.{_≡_, sym}
-use native.Mathlib.Omega.{arith}
+use mathlib.Core.Path.{_≡_}
 use borrow.Author.Needs.{needs}
-use lib.ListN.{length, List·getD-eq-default}
-use Rattle.drive.proofs.Lists.{unmapped}
+use lib.ListN.{length}
+use Rattle.drive.proofs.Lists.{unmapped, past-last}
 use Rattle.drive.proofs.Show.session.Statement.{statement}
 use Rattle.drive.proofs.Show.session.Tie as tie
 
@@ -20,7 +19,7 @@ returns : tie.Need-returns
 returns c = search needs
 
 returns-2 : tie.Need-returns-2
-returns-2 c = sym (List·getD-eq-default (c .before .args .t1 .sessions) _ {n = c .before .args .i} (omega (arith, places (c .before))))
+returns-2 c = past-last (c .before .args .t1 .sessions) _ 16 _ (places (c .before)) (c .if1 .left)
 
 pub session-spec : {M : Type 1} → statement M
 session-spec = tie.close (tie.spec mul-result element-copy-out-result returns returns-2)
