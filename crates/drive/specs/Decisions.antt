@@ -11,7 +11,7 @@ use Rattle.drive.specs.Limits.{Between, DriveWithin, LayoutWithin, Sessi
 use Rattle.drive.specs.Bound.{Limited}
 
 -- A statement is told where another is that holds exactly when it does.
-abbrev decided : {p q : Type 0} → (p → q) → (q → p) → Dec p → Dec q
+abbrev pub decided : {p q : Type 0} → (p → q) → (q → p) → Dec p → Dec q
 decided there back d = dite d (λ h. yes (there h)) (λ n. no (λ h. n (back h)))
 
 unfoldable pub between? : (least x most : ℕ) → Dec (Between least x most)

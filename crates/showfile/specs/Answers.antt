@@ -1,0 +1,77 @@
+-- What reading and writing answer, and what a writer's buffer then holds: docs/RULES.md, section 6.
+use Prim.Native.Nat.{ℕ, _-_}
+use mathlib.Core.List.{List, _++_}
+use lib.ListN.{length, take, drop}
+use Rattle.drive.specs.declared.Show.{Show}
+use Rattle.drive.specs.declared.refusal.Check.{Check}
+use Rattle.drive.specs.declared.refusal.Check.the-variants.{Within, Refused}
+use Rattle.drive.specs.Checks.{first, countsCheck, limitsCheck}
+use Rattle.showfile.specs.declared.trailer.Trailer.{Trailer}
+use Rattle.showfile.specs.declared.Reading.{Reading}
+use Rattle.showfile.specs.declared.Written.{Written}
+use Rattle.showfile.specs.File.{trailerOf, showFrom, fileOf, zeroed, noShow}
+use Rattle.showfile.specs.Checks.{noteLength, lengthCheck, noteCheck, roomCheck, trailerCheck}
+
+-- ---- reading
+
+-- a show and the length of its note; refused, zeros
+abbrev pub reading : Check → Show → ℕ → Reading
+reading Within x n = record { check = Within; show = x; note = n }
+reading (Refused w) x n = record { check = Refused w; show = noShow; note = 0 }
+
+-- the show of a file whose trailer t stands at `at`, within its limits: 5, 6, 7
+abbrev pub shownAt : List ℕ → ℕ → Trailer → Show
+shownAt f at t = showFrom t (drop (noteLength at t) f)
+
+-- 1; 2, 3, 4; 5, 6, 7
+unfoldable pub readAt : List ℕ → ℕ → Trailer → Reading
+readAt f at t =
+    reading (first (lengthCheck (length f)) (first (trailerCheck at t) (limitsCheck (shownAt f at t)))) (shownAt f at t) (noteLength at t)
+
+-- The trailer is the last twenty bytes.
+unfoldable pub readOf : List ℕ → Reading
+readOf f = readAt f (length f - 20) (trailerOf (drop (length f - 20) f))
+
+-- the note of a file; refused, nothing
+abbrev pub noteOf : List ℕ → List ℕ
+noteOf f = take (readOf f .note) f
+
+-- ---- writing
+
+-- how many bytes were written; refused, 0
+abbrev pub written : Check → ℕ → Written
+written Within n = record { check = Within; len = n }
+written (Refused w) n = record { check = Refused w; len = 0 }
+
+-- the bytes from the buffer's first, and every later byte as it was; refused, every byte as it was
+abbrev pub writtenOver : Check → List ℕ → List ℕ → List ℕ
+writtenOver Within file b = file ++ drop (length file) b
+writtenOver (Refused w) file b = b
+
+-- 2, 4, 5, 6, 7, 16
+unfoldable pub writeCheck : Show → List ℕ → ℕ → Check
+writeCheck x note room =
+    first (countsCheck (x .laid) (x .playing))
+    (first (noteCheck (length note)) (first (limitsCheck x) (roomCheck (length (fileOf x note)) room)))
+
+unfoldable pub writtenOf : Show → List ℕ → ℕ → Written
+writtenOf x note room = written (writeCheck x note room) (length (fileOf x note))
+
+unfoldable pub bufferOf : Show → List ℕ → List ℕ → List ℕ
+bufferOf x note b = writtenOver (writeCheck x note (length b)) (fileOf x note) b
+
+-- ---- there and back
+
+-- Reading what was written gives the same note and the same show, unused places zero.
+unfoldable pub rereadOf : Show → List ℕ → ℕ → Reading
+rereadOf x note room = reading (writeCheck x note room) (zeroed x) (length note)
+
+-- Writing what was read gives the same bytes.
+unfoldable pub copyCheck : List ℕ → ℕ → Check
+copyCheck f room = first (readOf f .check) (roomCheck (length f) room)
+
+unfoldable pub copiedOf : List ℕ → ℕ → Written
+copiedOf f room = written (copyCheck f room) (length f)
+
+unfoldable pub copyOf : List ℕ → List ℕ → List ℕ
+copyOf f b = writtenOver (copyCheck f (length b)) f b

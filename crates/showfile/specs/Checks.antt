@@ -1,0 +1,46 @@
+-- The tests of a file, 1 to 4, and of a writer's buffer, 16: docs/RULES.md, sections 4 and 6.
+use Prim.Native.Nat.{ℕ, _+_, _*_, _-_, _≤_}
+use mathlib.Core.Path.{_≡_}
+use mathlib.Core.Logic.{Dec·and}
+use native.Mathlib.Decide.{decLe, ℕ-discrete}
+use Rattle.drive.specs.declared.refusal.Refusal.the-variants.{FileLength, Distances, NoteLength, BufferShort}
+use Rattle.drive.specs.declared.refusal.Check.{Check}
+use Rattle.drive.specs.Decisions.{decided, between?}
+use Rattle.drive.specs.Checks.{unless, first, countsCheck}
+use Rattle.showfile.specs.declared.trailer.Trailer.{Trailer}
+
+-- the length of the note, which is what precedes the layouts, where the trailer t stands at `at`
+abbrev pub noteLength : ℕ → Trailer → ℕ
+noteLength at t = at - 16 * (t .laid + t .playing)
+
+-- With l layouts and s sessions the distances are 16(l+s) and 16s, and they do not reach before the file.
+pub record Distanced (at : ℕ) (t : Trailer) : Type 0 where
+  pub far : t .far ≡ 16 * (t .laid + t .playing)
+  pub near : t .near ≡ 16 * t .playing
+  pub inside : t .far ≤ at
+
+unfoldable pub distanced? : (at : ℕ) (t : Trailer) → Dec (Distanced at t)
+unfolding Dec·and ℕ-discrete decLe
+distanced? at t =
+    decided (λ h. record { far = h .0; near = h .1 .0; inside = h .1 .1 }) (λ b. (b .far, (b .near, b .inside)))
+    (Dec·and (ℕ-discrete _ _) (Dec·and (ℕ-discrete _ _) (decLe _ _)))
+
+-- 1: file under 20 or over 1,428 bytes
+abbrev pub lengthCheck : ℕ → Check
+lengthCheck n = unless (between? 20 n 1428) FileLength
+
+-- 3: a distance differs from its formula, or reaches before the file
+abbrev pub distancesCheck : ℕ → Trailer → Check
+distancesCheck at t = unless (distanced? at t) Distances
+
+-- 4: note over 1,024 bytes
+abbrev pub noteCheck : ℕ → Check
+noteCheck n = unless (decLe n 1024) NoteLength
+
+-- 16: writer's buffer too short
+abbrev pub roomCheck : ℕ → ℕ → Check
+roomCheck size room = unless (decLe size room) BufferShort
+
+-- 2, 3, 4, of the trailer t that stands at `at`
+unfoldable pub trailerCheck : ℕ → Trailer → Check
+trailerCheck at t = first (countsCheck (t .laid) (t .playing)) (first (distancesCheck at t) (noteCheck (noteLength at t)))

@@ -1,0 +1,4 @@
+pub mod Bytes
+pub mod File
+pub mod Checks
+pub mod Answers
