@@ -11,13 +11,15 @@ use Rattle.drive.proofs.Checks.{unless-kept, unless-within, first-withi
 use Rattle.drive.proofs.Rows.{row-within, row-kept}
 
 module _ (s : Show) where
+  -- Where 2 is passed, 5, 6 and 7 are left.
+  pub limits-left : CountsWithin (s .laid) (s .playing) → showCheck s ≡ limitsCheck s
+  unfolding showCheck
+  limits-left c = first-within _ _ (unless-kept (counts? (s .laid) (s .playing)) Counts c)
+
   -- Where 2 and 5 are passed, 6 and 7 are left.
   pub rows-left :
       CountsWithin (s .laid) (s .playing) → DriveWithin (s .drive) → showCheck s ≡ first (layoutsCheck s) (sessionsCheck s)
-  unfolding showCheck
-  rows-left c d =
-      first-within _ _ (unless-kept (counts? (s .laid) (s .playing)) Counts c)
-      ∙ first-within _ _ (unless-kept (drive? (s .drive)) DriveLimits d)
+  rows-left c d = limits-left c ∙ first-within _ _ (unless-kept (drive? (s .drive)) DriveLimits d)
 
   pub layouts-within : layoutsCheck s ≡ Within → (i : ℕ) → i < s .laid → LaidWithin s i
   layouts-within = row-within (LaidWithin s) (λ i. layout? (layoutAt s i)) LayoutLimits (s .laid)
