@@ -1,3 +1,11 @@
 pub mod ByteLaws
 pub mod RowLaws
 pub mod Passed
+pub mod Stops
+pub mod Got
+pub mod Sizes
+pub mod Filed
+pub mod Words
+pub mod Records
+pub mod Parts
+pub mod Trip

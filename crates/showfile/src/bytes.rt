@@ -2,7 +2,7 @@
 ghost use mathlib.Core.Path.{_≡_};
 ghost use Prim.Native.Nat.{_+_, _≤_, _<_};
 ghost use lib.ListN.{length, drop};
-ghost use Rattle.showfile.specs.Bytes.{Bytes, wordOf, halfOf, wordBytes, halfBytes, fourBytes, over};
+ghost use Rattle.showfile.specs.Bytes.{wordOf, halfOf, wordBytes, halfBytes, fourBytes, over};
 
 fn wide(b: u8) -> u32
     ensures { λ r. ⌜ (r ≡ b) × (r < 256) ⌝ }
@@ -61,14 +61,4 @@ pub(crate) fn put_bytes(b: &mut [u8], from: &[u8])
         b[i] = from[i];
         i += 1;
     }
-}
-
-// Says to the proof what a lent slice holds: a cast is where the checker tells it.
-pub(crate) fn known(s: &[u8]) -> u32
-    ensures { λ _. ⌜ Bytes (now (s .entry)) ⌝ }
-{
-    if s.len() == 0 {
-        return 0;
-    }
-    s[0] as u32
 }

@@ -7,13 +7,12 @@ ghost use mathlib.Core.Path.{_≡_};
 ghost use mathlib.Core.List.{_++_};
 ghost use Prim.Native.Nat.{_+_, _*_, _≤_};
 ghost use lib.ListN.{length, drop};
-ghost use Rattle.drive.specs.declared.refusal.Check.the-variants.{Within};
+ghost use Rattle.drive.specs.declared.refusal.Check.the-variants.{Within, Refused};
 ghost use Rattle.drive.specs.Checks.{limitsCheck};
 ghost use Rattle.drive.specs.Limits.{Between, Tells};
 ghost use Rattle.showfile.specs.File.{showFrom, fileOf, noShow};
 ghost use Rattle.showfile.specs.Checks.{noteLength, trailerCheck};
 ghost use Rattle.showfile.specs.Answers.{reading, readOf, noteOf, shownAt, writeCheck, writtenOf, bufferOf, rereadOf, copiedOf, copyOf};
-use crate::bytes::known;
 use crate::bytes::put_bytes;
 use crate::rows::get_layouts;
 use crate::rows::get_sessions;
@@ -61,8 +60,8 @@ fn length_within(n: usize) -> bool
     true
 }
 
-fn no_show() -> Show
-    ensures { λ r. ⌜ r ≡ noShow ⌝ }
+fn refused(why: Refusal) -> Reading
+    ensures { λ r. ⌜ r ≡ reading (Refused why) noShow 0 ⌝ }
 {
     let layout = Layout {
         longest: 0,
@@ -76,7 +75,7 @@ fn no_show() -> Show
         buffer: 0,
         layout: 0,
     };
-    Show {
+    let show = Show {
         drive: Drive {
             block: 0,
             cylinder: 0,
@@ -85,6 +84,11 @@ fn no_show() -> Show
         laid: 0,
         sessions: [session; 16],
         playing: 0,
+    };
+    Reading {
+        check: Check::Refused(why),
+        show,
+        note: 0,
     }
 }
 
@@ -92,11 +96,7 @@ fn answer(check: Check, show: Show, note: usize) -> Reading
     ensures { λ r. ⌜ r ≡ reading check show note ⌝ }
 {
     if let Check::Refused(why) = check {
-        return Reading {
-            check: Check::Refused(why),
-            show: no_show(),
-            note: 0,
-        };
+        return refused(why);
     }
     Reading {
         check: Check::Within,
@@ -110,10 +110,11 @@ fn get_show(file: &[u8], from: usize, t: Trailer) -> Show
     requires { ⌜ (t .laid ≤ 8) × (t .playing ≤ 16) × (from + 16 * (t .laid + t .playing) ≤ length (now file)) ⌝ }
     ensures { λ r. ⌜ r ≡ showFrom t (drop from (now (file .entry))) ⌝ }
 {
+    let drive = t.drive;
     let layouts = get_layouts(file, from, t.laid);
     let sessions = get_sessions(file, from + t.laid * 16, t.playing);
     Show {
-        drive: t.drive,
+        drive,
         layouts,
         laid: t.laid,
         sessions,
@@ -137,13 +138,13 @@ pub fn read(file: &[u8]) -> Reading
 {
     let n = file.len();
     if !length_within(n) {
-        return answer(Check::Refused(Refusal::FileLength), no_show(), 0);
+        return refused(Refusal::FileLength);
     }
     let at = n - Trailer::LENGTH;
     let t = get_trailer(file, at);
     let check = t.check(at);
     if let Check::Refused(why) = check {
-        return answer(Check::Refused(why), no_show(), 0);
+        return refused(why);
     }
     read_limits(file, at, t)
 }
@@ -222,7 +223,7 @@ pub fn reread(show: Show, note: &[u8], buffer: &mut [u8]) -> Reading
     let wrote = write(show, note, buffer);
     let check = wrote.check;
     if let Check::Refused(why) = check {
-        return answer(Check::Refused(why), no_show(), 0);
+        return refused(why);
     }
     let n = wrote.len;
     read(&buffer[..n])
@@ -241,7 +242,6 @@ pub fn copy(file: &[u8], buffer: &mut [u8]) -> Written
             len: 0,
         };
     }
-    known(file);
     let n = got.note;
     write(got.show, &file[..n], buffer)
 }

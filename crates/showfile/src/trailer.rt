@@ -33,8 +33,9 @@ impl Trailer {
         requires { ⌜ CountsWithin (show .laid) (show .playing) ⌝ }
         ensures { λ r. ⌜ r ≡ trailerFor show ⌝ }
     {
+        let drive = show.drive;
         Trailer {
-            drive: show.drive,
+            drive,
             laid: show.laid,
             playing: show.playing,
             far: (16 * (show.laid + show.playing)) as u32,

@@ -1,0 +1,169 @@
+-- There and back: writing what was read gives the same bytes, and reading what was written gives the same note and show, with zeros in
+-- its unused places. Assumes nothing.
+use Prim.Native.Nat.{ℕ, _+_, _*_, _-_, _≤_}
+use mathlib.Core.Path.{_≡_, refl, sym, ap, _∙_}
+use mathlib.Core.List.{List}
+use native.Mathlib.Omega.{arith}
+use lib.ListN.{length, take, drop, length-drop, take-append-drop}
+use lib.Seq.{drop-drop, take-at, length-take-le}
+use Rattle.drive.specs.declared.Show.{Show}
+use Rattle.drive.specs.declared.refusal.Check.{Check}
+use Rattle.drive.specs.declared.refusal.Check.the-variants.{Within, Refused}
+use Rattle.drive.specs.declared.refusal.Refusal.{Refusal}
+use Rattle.drive.specs.declared.refusal.Refusal.the-variants.{FileLength}
+use Rattle.drive.specs.Limits.{Between, ShowWithin}
+use Rattle.drive.specs.Decisions.{between?}
+use Rattle.drive.specs.Checks.{first, limitsCheck}
+use Rattle.drive.proofs.Checks.{unless-kept, unless-within, first-left, first-right}
+use Rattle.showfile.specs.declared.trailer.Trailer.{Trailer}
+use Rattle.showfile.specs.Bytes.{Bytes}
+use Rattle.showfile.specs.File.{trailerOf, trailerBytes, showFrom, trailerFor, fileOf, zeroed, noShow}
+use Rattle.showfile.specs.Checks.{noteLength, lengthCheck, roomCheck, trailerCheck}
+use Rattle.showfile.specs.Answers.{
+  reading,
+  shownAt,
+  readAt,
+  readOf,
+  noteOf,
+  written,
+  writeCheck,
+  writtenOf,
+  bufferOf,
+  rereadOf,
+  copyCheck,
+  copiedOf,
+  copyOf,
+}
+use Rattle.showfile.proofs.Passed.{Framed, check-framed, framed-check, limits-within, within-limits, check-writable, room-left}
+use Rattle.showfile.proofs.Sizes.{file-length, note-inside}
+use Rattle.showfile.proofs.Words.{bytes-drop}
+use Rattle.showfile.proofs.Records.{trailer-back}
+use Rattle.showfile.proofs.Parts.{trailer-again, rows-again, trailer-read, show-read, zeroed-within}
+
+-- ---- read, then written
+
+-- where a file's trailer stands, and the trailer
+abbrev end : List ℕ → ℕ
+end f = length f - 20
+
+abbrev last : List ℕ → Trailer
+last f = trailerOf (drop (end f) f)
+
+-- a file past 1 to 7, and what is read from it
+record Readable (f : List ℕ) : Type 0 where
+  pub size : Between 20 (length f) 1428
+  pub framed : Framed (end f) (last f)
+  pub within : ShowWithin (shownAt f (end f) (last f))
+  pub is : readOf f ≡ reading Within (shownAt f (end f) (last f)) (noteLength (end f) (last f))
+
+reading-within : (c : Check) (x : Show) (n : ℕ) → reading c x n .check ≡ Within → c ≡ Within
+reading-within Within x n e = refl
+reading-within (Refused w) x n e = e
+
+check-readable : (f : List ℕ) → readOf f .check ≡ Within → Readable f
+unfolding readOf readAt showFrom
+check-readable f e =
+    let a = lengthCheck (length f) in
+    let b = trailerCheck (end f) (last f) in
+    let x = shownAt f (end f) (last f) in
+    let n = noteLength (end f) (last f) in
+    let all : first a (first b (limitsCheck x)) ≡ Within = reading-within (first a (first b (limitsCheck x))) x n e in
+    let rest = first-right a (first b (limitsCheck x)) all in
+    let framed = check-framed (end f) (last f) (first-left b (limitsCheck x) rest) in
+    record {
+      size = unless-within (between? 20 (length f) 1428) FileLength (first-left a (first b (limitsCheck x)) all);
+      framed = framed;
+      within = limits-within x (framed .counts) (first-right b (limitsCheck x) rest);
+      is = ap (λ (c : Check). reading c x n) all;
+    }
+
+-- Writing what was read gives the same bytes.
+pub file-written : (f : List ℕ) → Bytes f → readOf f .check ≡ Within → fileOf (readOf f .show) (noteOf f) ≡ f
+file-written f b e =
+    let g = check-readable f e in
+    let t = last f in
+    let n = noteLength (end f) t in
+    let s = drop n f in
+    let size = g .size in
+    let far = g .framed .distances in
+    let rows : (t .laid + t .playing) * 16 ≤ length s = simp length-drop (omega arith) in
+    let to-end : n + (t .laid + t .playing) * 16 ≡ end f = omega arith in
+    let twenty : length (drop (end f) f) ≡ 20 = simp length-drop (omega arith) in
+    let trailer : trailerBytes (trailerFor (showFrom t s)) ≡ drop (end f) f =
+    rw (trailer-again (end f) t s far) (trailer-back (drop (end f) f) twenty (bytes-drop (end f) f b)) in
+    let after : drop ((t .laid + t .playing) * 16) s ≡ drop (end f) f =
+    drop-drop ((t .laid + t .playing) * 16) n f ∙ ap (λ (j : ℕ). drop j f) to-end in
+    rw (g .is) (rows-again t (take n f) s rows (bytes-drop n f b) (trailer ∙ sym after) ∙ take-append-drop n f)
+
+-- What was read may be written, given room.
+pub read-writable :
+    (f : List ℕ) → Bytes f → readOf f .check ≡ Within → (room : ℕ) →
+    writeCheck (readOf f .show) (noteOf f) room ≡ roomCheck (length f) room
+read-writable f b e room =
+    let g = check-readable f e in
+    let within : ShowWithin (readOf f .show) = rw (g .is) (g .within) in
+    let note : readOf f .note ≤ 1024 = rw (g .is) (g .framed .note) in
+    let short : length (noteOf f) ≤ 1024 = rw (length-take-le (readOf f .note) f (note-inside f)) note in
+    room-left (readOf f .show) (noteOf f) room within short ∙ ap (λ (s : List ℕ). roomCheck (length s) room) (file-written f b e)
+
+-- ---- written, then read
+
+-- Reading what was written gives the same note and show, unused places zero.
+pub file-read :
+    (x : Show) (note : List ℕ) → length (x .layouts) ≡ 8 → length (x .sessions) ≡ 16 → ShowWithin x → length note ≤ 1024 →
+    readOf (fileOf x note) ≡ reading Within (zeroed x) (length note)
+unfolding readOf readAt trailerFor
+file-read x note hl hs w h =
+    let f = fileOf x note in
+    let at = length note + 16 * (x .laid + x .playing) in
+    let counts = w .counts in
+    let laid : x .laid ≤ length (x .layouts) = omega arith in
+    let playing : x .playing ≤ length (x .sessions) = omega arith in
+    let size : length f ≡ at + 20 = file-length x note laid playing in
+    let end-at : end f ≡ at = omega arith in
+    let note-at : noteLength at (trailerFor x) ≡ length note = omega arith in
+    let framed : Framed at (trailerFor x) =
+    record { counts = w .counts; distances = record { far = refl; near = refl; inside = omega arith }; note = omega arith } in
+    let sized : lengthCheck (length f) ≡ Within =
+    unless-kept (between? 20 (length f) 1428) FileLength (record { low = omega arith; high = omega arith }) in
+    rw (
+      end-at,
+      trailer-read x laid playing w note,
+      note-at,
+      show-read x laid playing w note,
+      sized,
+      framed-check at (trailerFor x) framed,
+      within-limits (zeroed x) (zeroed-within x laid playing w),
+    )
+
+-- ---- there and back in one call
+
+pub reread-answers :
+    (x : Show) (note b : List ℕ) → length (x .layouts) ≡ 8 → length (x .sessions) ≡ 16 → writeCheck x note (length b) ≡ Within →
+    readOf (take (length (fileOf x note)) (bufferOf x note b)) ≡ rereadOf x note (length b)
+unfolding bufferOf rereadOf
+reread-answers x note b hl hs e =
+    let w = check-writable x note (length b) e in
+    let f = fileOf x note in
+    rw (e, take-at f (drop (length f) b) (length f) refl) (file-read x note hl hs (w .within) (w .short))
+
+pub reread-refused :
+    (x : Show) (note b : List ℕ) {w : Refusal} → writeCheck x note (length b) ≡ Refused w →
+    reading (Refused w) noShow 0 ≡ rereadOf x note (length b)
+unfolding rereadOf
+reread-refused x note b e = rw e
+
+pub copy-answers :
+    (f b : List ℕ) → Bytes f → readOf f .check ≡ Within →
+    (writtenOf (readOf f .show) (noteOf f) (length b) ≡ copiedOf f (length b)) × (bufferOf (readOf f .show) (noteOf f) b ≡ copyOf f b)
+unfolding writtenOf bufferOf copiedOf copyOf copyCheck
+copy-answers f b bytes e =
+    let may = read-writable f bytes e (length b) in
+    let same = file-written f bytes e in
+    (rw (may, same, e), rw (may, same, e))
+
+pub copy-refused :
+    (f b : List ℕ) {w : Refusal} → readOf f .check ≡ Refused w →
+    (written (Refused w) 0 ≡ copiedOf f (length b)) × (b ≡ copyOf f b)
+unfolding copiedOf copyOf copyCheck
+copy-refused f b e = (rw e, rw e)

@@ -1,0 +1,69 @@
+-- `get_layouts` fills a row from the front. Invariant: the first i layouts stand there, zeros above; what falls: n - i. Assumes nothing.
+use Prim.Native.Nat.{_*_, _-_, _≤_}
+use mathlib.Core.Path.{_≡_}
+use native.Mathlib.Omega.{arith}
+use lib.ListN.{drop}
+use lib.Seq.{drop-drop}
+use Rattle.drive.specs.Limits.{noLayout}
+use Rattle.showfile.specs.Bytes.{rowOf, padded}
+use Rattle.showfile.specs.File.{layoutOf}
+use Rattle.showfile.proofs.RowLaws.{row-none, row-more}
+use Rattle.showfile.proofs.rows.get_layouts.Statement.{statement}
+use Rattle.showfile.proofs.rows.get_layouts.Tie as tie
+
+abbrev Inv-loop : tie.InvT-loop
+Inv-loop s from n out₀ i₀ out i = (i ≤ n) × (out ≡ padded 8 noLayout (rowOf layoutOf i (drop from s)))
+
+abbrev μ-loop : tie.MeasureT-loop
+μ-loop s from n out₀ i₀ out i = n - i
+
+loop-holds : tie.Need-loop-holds Inv-loop μ-loop
+loop-holds c = (omega arith, row-none layoutOf 8 noLayout _)
+
+mul-get-layout : tie.Need-mul-get-layout Inv-loop μ-loop
+mul-get-layout c = omega arith
+
+add-get-layout : tie.Need-add-get-layout Inv-loop μ-loop
+add-get-layout c = omega arith
+
+get-layout-requires : tie.Need-get-layout-requires Inv-loop μ-loop
+get-layout-requires c κs = omega arith
+
+mul-out : tie.Need-mul-out Inv-loop μ-loop
+mul-out c = omega arith
+
+array-set-from-out : tie.Need-array-set-from-out Inv-loop μ-loop
+array-set-from-out c = omega arith
+
+add-i : tie.Need-add-i Inv-loop μ-loop
+add-i c = omega arith
+
+loop-less : tie.Need-loop-less Inv-loop μ-loop
+loop-less c = omega arith
+
+loop-again : tie.Need-loop-again Inv-loop μ-loop
+loop-again c =
+    let a = c .before .before .before .before .args in
+    let l = c .before .before .loop in
+    let e : c .get-layout .result ≡ layoutOf (drop (l .i * 16) (drop (a .from) (a .s .now))) = rw drop-drop (c .get-layout .ensures) in
+    (omega arith, rw (l .inv .1, e) (row-more layoutOf 8 (l .i) (drop (a .from) (a .s .now)) noLayout (omega arith)))
+
+returns : tie.Need-returns Inv-loop μ-loop
+returns c = let e : c .before .loop .i ≡ c .before .before .before .args .n = omega arith in rw (← e) (c .before .loop .inv .1)
+
+pub get-layouts-spec : {M : Type 1} → statement M
+get-layouts-spec =
+    tie.close
+    (tie.spec
+    Inv-loop
+    μ-loop
+    loop-holds
+    mul-get-layout
+    add-get-layout
+    get-layout-requires
+    mul-out
+    array-set-from-out
+    add-i
+    loop-less
+    loop-again
+    returns)
