@@ -2,9 +2,9 @@
 -- its unused places. Assumes nothing.
 use Prim.Native.Nat.{ℕ, _+_, _*_, _-_, _≤_}
 use mathlib.Core.Path.{_≡_, refl, sym, ap, _∙_}
-use mathlib.Core.List.{List}
+use mathlib.Core.List.{List, _++_}
 use native.Mathlib.Omega.{arith}
-use lib.ListN.{length, take, drop, length-drop, take-append-drop}
+use lib.ListN.{length, take, drop, length-append, length-drop, take-append-drop}
 use lib.Seq.{drop-drop, take-at, length-take-le}
 use Rattle.drive.specs.declared.Show.{Show}
 use Rattle.drive.specs.declared.refusal.Check.{Check}
@@ -16,6 +16,8 @@ use Rattle.drive.specs.Decisions.{between?}
 use Rattle.drive.specs.Checks.{first, limitsCheck}
 use Rattle.drive.proofs.Checks.{unless-kept, unless-within, first-left, first-right}
 use Rattle.showfile.specs.declared.trailer.Trailer.{Trailer}
+use Rattle.showfile.specs.declared.Reading.{Reading}
+use Rattle.showfile.specs.declared.Written.{Written}
 use Rattle.showfile.specs.Bytes.{Bytes}
 use Rattle.showfile.specs.File.{trailerOf, trailerBytes, showFrom, trailerFor, fileOf, zeroed, noShow}
 use Rattle.showfile.specs.Checks.{noteLength, lengthCheck, roomCheck, trailerCheck}
@@ -136,34 +138,53 @@ file-read x note hl hs w h =
       within-limits (zeroed x) (zeroed-within x laid playing w),
     )
 
--- ---- there and back in one call
+-- ---- there and back in one call, by what its first half answered
 
-pub reread-answers :
-    (x : Show) (note b : List ℕ) → length (x .layouts) ≡ 8 → length (x .sessions) ≡ 16 → writeCheck x note (length b) ≡ Within →
-    readOf (take (length (fileOf x note)) (bufferOf x note b)) ≡ rereadOf x note (length b)
-unfolding bufferOf rereadOf
-reread-answers x note b hl hs e =
-    let w = check-writable x note (length b) e in
-    let f = fileOf x note in
-    rw (e, take-at f (drop (length f) b) (length f) refl) (file-read x note hl hs (w .within) (w .short))
+written-check : (c : Check) (n : ℕ) → written c n .check ≡ c
+written-check Within n = refl
+written-check (Refused w) n = refl
 
-pub reread-refused :
-    (x : Show) (note b : List ℕ) {w : Refusal} → writeCheck x note (length b) ≡ Refused w →
-    reading (Refused w) noShow 0 ≡ rereadOf x note (length b)
-unfolding rereadOf
-reread-refused x note b e = rw e
+module _ (x : Show) (note b : List ℕ) {r : Written} {b' : List ℕ} (wrote : r ≡ writtenOf x note (length b)) (left : b' ≡ bufferOf x note b) where
+  told : r .check ≡ writeCheck x note (length b)
+  unfolding writtenOf
+  told = ap (λ (a : Written). a .check) wrote ∙ written-check (writeCheck x note (length b)) (length (fileOf x note))
 
-pub copy-answers :
-    (f b : List ℕ) → Bytes f → readOf f .check ≡ Within →
-    (writtenOf (readOf f .show) (noteOf f) (length b) ≡ copiedOf f (length b)) × (bufferOf (readOf f .show) (noteOf f) b ≡ copyOf f b)
-unfolding writtenOf bufferOf copiedOf copyOf copyCheck
-copy-answers f b bytes e =
-    let may = read-writable f bytes e (length b) in
-    let same = file-written f bytes e in
-    (rw (may, same, e), rw (may, same, e))
+  pub reread-refused : {w : Refusal} → r .check ≡ Refused w → reading (Refused w) noShow 0 ≡ rereadOf x note (length b)
+  unfolding rereadOf
+  reread-refused e = rw (sym told ∙ e)
 
-pub copy-refused :
-    (f b : List ℕ) {w : Refusal} → readOf f .check ≡ Refused w →
-    (written (Refused w) 0 ≡ copiedOf f (length b)) × (b ≡ copyOf f b)
-unfolding copiedOf copyOf copyCheck
-copy-refused f b e = (rw e, rw e)
+  module _ (good : r .check ≡ Within) where
+    size : r .len ≡ length (fileOf x note)
+    unfolding writtenOf
+    size = ap (λ (a : Written). a .len) wrote ∙ rw (sym told ∙ good)
+
+    filed : b' ≡ fileOf x note ++ drop (length (fileOf x note)) b
+    unfolding bufferOf
+    filed = left ∙ rw (sym told ∙ good)
+
+    -- what was written lies in the buffer
+    pub reread-inside : r .len ≤ length b'
+    reread-inside = rw (size, filed, length-append) (omega arith)
+
+    pub reread-answers : length (x .layouts) ≡ 8 → length (x .sessions) ≡ 16 → readOf (take (r .len) b') ≡ rereadOf x note (length b)
+    unfolding rereadOf
+    reread-answers hl hs =
+        let may : writeCheck x note (length b) ≡ Within = sym told ∙ good in
+        let w = check-writable x note (length b) may in
+        let f = fileOf x note in
+        rw (size, filed, take-at f (drop (length f) b) (length f) refl, may) (file-read x note hl hs (w .within) (w .short))
+
+module _ (f b : List ℕ) {r : Reading} (got : r ≡ readOf f) where
+  pub copy-refused : {w : Refusal} → r .check ≡ Refused w → (written (Refused w) 0 ≡ copiedOf f (length b)) × (b ≡ copyOf f b)
+  unfolding copiedOf copyOf copyCheck
+  copy-refused e = (rw (← got, e), rw (← got, e))
+
+  pub copy-answers :
+      Bytes f → r .check ≡ Within → {a : Written} {b' : List ℕ} → a ≡ writtenOf (r .show) (take (r .note) f) (length b) →
+      b' ≡ bufferOf (r .show) (take (r .note) f) b → (a ≡ copiedOf f (length b)) × (b' ≡ copyOf f b)
+  unfolding writtenOf bufferOf copiedOf copyOf copyCheck
+  copy-answers bytes e wrote left =
+      let good : readOf f .check ≡ Within = rw (← got) e in
+      let may = read-writable f bytes good (length b) in
+      let same = file-written f bytes good in
+      (rw (wrote, got, may, same, good), rw (left, got, may, same, good))

@@ -1,41 +1,40 @@
+-- `copy` writes what it read. Assumes nothing.
+use mathlib.Core.Path.{_≡_, sym}
+use Prim.Native.Nat.{_≤_}
+use lib.ListN.{length}
+use lib.Seq.{length-take-le}
+use Rattle.showfile.proofs.Sizes.{note-inside}
+use Rattle.showfile.proofs.Trip.{copy-refused, copy-answers}
 use borrow.Author.Needs.{needs}
 use Rattle.showfile.proofs.copy.Statement.{statement}
 use Rattle.showfile.proofs.copy.Tie as tie
-use Rattle.showfile.proofs.copy.Reads as reads
-use Rattle.showfile.proofs.copy.Lts as lts
-use Rattle.showfile.proofs.read.Reads as read-reads
-use Rattle.showfile.proofs.write.Reads as write-reads
 
--- src/lib.rt:237:9
 read-requires : tie.Need-read-requires
 read-requires c κs = search needs
 
--- src/lib.rt:239:27
 enum-known-check : tie.Need-enum-known-check
 enum-known-check c = search needs
 
--- src/lib.rt:240:9
 returns : tie.Need-returns
-returns c = ?
+returns c = copy-refused _ _ (c .before .before .before .read .ensures) (c .before .check .given .1)
 
 enum-told : tie.Need-enum-told
 enum-told c = search needs
 
--- src/lib.rt:246:21
 slice-aggregate-write : tie.Need-slice-aggregate-write
-slice-aggregate-write c = ?
+slice-aggregate-write c =
+    let f = c .before .before .before .before .before .before .args .file .now in
+    let h : c .before .before .before .read .result .note ≤ length f = rw (c .before .before .before .read .ensures) (note-inside f) in
+    sym (length-take-le (c .before .before .before .read .result .note) f h)
 
--- src/lib.rt:246:5
 write-requires : tie.Need-write-requires
 write-requires c κs = search needs
 
--- src/lib.rt:233:1
 same-length : tie.Need-same-length
 same-length c = search needs
 
--- src/lib.rt:233:1
 returns-2 : tie.Need-returns-2
-returns-2 c = ?
+returns-2 c = copy-answers _ _ (c .before .before .before .before .before .before .before .read .ensures) (λ i. c .before .before .before .before .before .before .before .before .before .shared-slice-known .given i .fits) (c .before .before .before .before .before .enum-told .given .1) (c .before .before .write .ensures .0) (c .before .before .write .ensures .1)
 
 pub copy-spec : {M : Type 1} → statement M
 copy-spec =

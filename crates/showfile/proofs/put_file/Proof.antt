@@ -1,61 +1,113 @@
+-- `put_file` writes the four parts, one after the other. Assumes nothing.
+use Prim.Native.Nat.{_+_, _*_, _≤_}
+use mathlib.Core.Path.{_≡_}
+use native.Mathlib.Omega.{arith}
+use lib.ListN.{length}
+use Rattle.drive.proofs.Lists.{unmapped}
+use Rattle.showfile.specs.File.{fileOf}
+use Rattle.showfile.proofs.Passed.{Writable, check-writable}
+use Rattle.showfile.proofs.Sizes.{file-length}
+use Rattle.showfile.proofs.Filed.{file-filed}
 use borrow.Author.Needs.{needs}
 use Rattle.showfile.proofs.put_file.Statement.{statement}
 use Rattle.showfile.proofs.put_file.Tie as tie
-use Rattle.showfile.proofs.put_file.Reads as reads
-use Rattle.showfile.proofs.put_file.Lts as lts
-use Rattle.showfile.proofs.bytes.put_bytes.Reads as put-bytes-reads
-use Rattle.showfile.proofs.rows.put_layouts.Reads as put-layouts-reads
-use Rattle.showfile.proofs.rows.put_sessions.Reads as put-sessions-reads
-use Rattle.showfile.proofs.trailer.Trailer.of.Reads as of-reads
-use Rattle.showfile.proofs.trailer.put_trailer.Reads as put-trailer-reads
 
--- src/lib.rt:188:26
+layouts-eight : (c : tie.Start) → length (c .args .show .layouts) ≡ 8
+layouts-eight c = search (unmapped, needs)
+
+sessions-sixteen : (c : tie.Start) → length (c .args .show .sessions) ≡ 16
+sessions-sixteen c = search (unmapped, needs)
+
+writable : (c : tie.Start) → Writable (c .args .show) (c .args .note .now) (length (c .args .buffer .now))
+writable c = check-writable _ _ _ (c .pre)
+
+size : (c : tie.Start) →
+    length (fileOf (c .args .show) (c .args .note .now))
+    ≡ length (c .args .note .now) + 16 * (c .args .show .laid + c .args .show .playing) + 20
+size c =
+    let w = writable c .within .counts in
+    let l = layouts-eight c in
+    let s = sessions-sixteen c in
+    file-length (c .args .show) (c .args .note .now) (omega arith) (omega arith)
+
 mul-second : tie.Need-mul-second
-mul-second c = ?
+mul-second c =
+    let w = writable (c .before .before .before) in
+    let k = w .within .counts in
+    let s = size (c .before .before .before) in
+    omega arith
 
--- src/lib.rt:188:18
 add-second : tie.Need-add-second
-add-second c = ?
+add-second c =
+    let w = writable (c .before .before .before) in
+    let k = w .within .counts in
+    let s = size (c .before .before .before) in
+    omega arith
 
--- src/lib.rt:189:26
 mul-third : tie.Need-mul-third
-mul-third c = ?
+mul-third c =
+    let w = writable (c .before .before .before .before) in
+    let k = w .within .counts in
+    let s = size (c .before .before .before .before) in
+    omega arith
 
--- src/lib.rt:189:17
 add-third : tie.Need-add-third
-add-third c = ?
+add-third c =
+    let w = writable (c .before .before .before .before) in
+    let k = w .within .counts in
+    let s = size (c .before .before .before .before) in
+    omega arith
 
--- src/lib.rt:192:5
 put-bytes-requires : tie.Need-put-bytes-requires
-put-bytes-requires c κs = ?
+put-bytes-requires c κs =
+    let w = writable (c .before .before .before .before .before .before .before) in
+    let k = w .within .counts in
+    let s = size (c .before .before .before .before .before .before .before) in
+    omega arith
 
--- src/lib.rt:193:5
 put-layouts-requires : tie.Need-put-layouts-requires
-put-layouts-requires c κs = ?
+put-layouts-requires c κs =
+    let w = writable (c .before .before .before .before .before .before .before .before .before .before .before) in
+    let k = w .within .counts in
+    let s = size (c .before .before .before .before .before .before .before .before .before .before .before) in
+    omega arith
 
--- src/lib.rt:194:5
 put-sessions-requires : tie.Need-put-sessions-requires
-put-sessions-requires c κs = ?
+put-sessions-requires c κs =
+    let w = writable (c .before .before .before .before .before .before .before .before .before .before .before .before .before .before .before) in
+    let k = w .within .counts in
+    let s = size (c .before .before .before .before .before .before .before .before .before .before .before .before .before .before .before) in
+    omega arith
 
--- src/lib.rt:195:32
 of-requires : tie.Need-of-requires
-of-requires c κs = ?
+of-requires c κs = writable (c .before .before .before .before .before .before .before .before .before .before .before .before .before .before .before .before .before .before .before) .within .counts
 
--- src/lib.rt:195:5
 put-trailer-requires : tie.Need-put-trailer-requires
-put-trailer-requires c κs = ?
+put-trailer-requires c κs =
+    let w = writable (c .before .before .before .before .before .before .before .before .before .before .before .before .before .before .before .before .before .before .before .before) in
+    let k = w .within .counts in
+    let s = size (c .before .before .before .before .before .before .before .before .before .before .before .before .before .before .before .before .before .before .before .before) in
+    omega arith
 
--- src/lib.rt:196:5
 add-result : tie.Need-add-result
-add-result c = ?
+add-result c =
+    let w = writable (c .before .before .before .before .before .before .before .before .before .before .before .before .before .before .before .before .before .before .before .before .before .before .before) in
+    let k = w .within .counts in
+    let s = size (c .before .before .before .before .before .before .before .before .before .before .before .before .before .before .before .before .before .before .before .before .before .before .before) in
+    omega arith
 
--- src/lib.rt:182:1
 same-length : tie.Need-same-length
 same-length c = search needs
 
--- src/lib.rt:182:1
 returns : tie.Need-returns
-returns c = ?
+returns c =
+    let s = c .before .before .before .before .before .before .before .before .before .before .before .before .before .before .before .before .before .before .before .before .before .before .before in
+    let w = writable s in
+    let k = w .within .counts in
+    let e = size s in
+    let l = layouts-eight s in
+    let p = sessions-sixteen s in
+    (omega arith, file-filed _ _ _ (omega arith) (omega arith) (w .fits) (c .before .before .before .before .before .before .before .before .before .before .before .before .before .before .before .put-bytes .ensures) (c .before .before .before .before .before .before .before .before .before .before .before .put-layouts .ensures) (c .before .before .before .before .before .before .before .put-sessions .ensures) (rw (← (c .before .before .before .of .ensures)) (c .before .before .put-trailer .ensures)))
 
 pub put-file-spec : {M : Type 1} → statement M
 put-file-spec =

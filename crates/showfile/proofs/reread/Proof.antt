@@ -1,54 +1,59 @@
+-- `reread` reads what it wrote. Assumes nothing.
+use mathlib.Core.Path.{_≡_, sym, _∙_}
+use lib.ListN.{length}
+use lib.Seq.{length-take-le}
+use Rattle.drive.proofs.Lists.{unmapped}
+use Rattle.showfile.proofs.Trip.{reread-refused, reread-inside, reread-answers}
 use borrow.Author.Needs.{needs}
 use Rattle.showfile.proofs.reread.Statement.{statement}
 use Rattle.showfile.proofs.reread.Tie as tie
-use Rattle.showfile.proofs.reread.Reads as reads
-use Rattle.showfile.proofs.reread.Lts as lts
-use Rattle.showfile.proofs.read.Reads as read-reads
-use Rattle.showfile.proofs.refused.Reads as refused-reads
-use Rattle.showfile.proofs.write.Reads as write-reads
 
--- src/lib.rt:223:9
+layouts-eight : (c : tie.Start) → length (c .args .show .layouts) ≡ 8
+layouts-eight c = search (unmapped, needs)
+
+sessions-sixteen : (c : tie.Start) → length (c .args .show .sessions) ≡ 16
+sessions-sixteen c = search (unmapped, needs)
+
 write-requires : tie.Need-write-requires
 write-requires c κs = search needs
 
--- src/lib.rt:225:27
 enum-known-check : tie.Need-enum-known-check
 enum-known-check c = search needs
 
--- src/lib.rt:226:9
 refused-requires : tie.Need-refused-requires
 refused-requires c κs = search needs
 
--- src/lib.rt:226:9
 same-length : tie.Need-same-length
 same-length c = search needs
 
--- src/lib.rt:226:9
 returns : tie.Need-returns
-returns c = ?
+returns c =
+    let w = c .before .before .before .before .before .before .write .ensures in
+    (c .refused .ensures ∙ reread-refused _ _ _ (w .0) (w .1) (c .before .before .check .given .1), w .1)
 
 enum-told : tie.Need-enum-told
 enum-told c = search needs
 
--- src/lib.rt:229:10
 slice-reshare-prefix-read : tie.Need-slice-reshare-prefix-read
-slice-reshare-prefix-read c = ?
+slice-reshare-prefix-read c =
+    let w = c .before .before .before .before .write .ensures in
+    reread-inside _ _ _ (w .0) (w .1) (c .enum-told .given .1)
 
--- src/lib.rt:229:10
 slice-aggregate-read : tie.Need-slice-aggregate-read
-slice-aggregate-read c = ?
+slice-aggregate-read c =
+    let w = c .before .before .before .before .before .write .ensures in
+    sym (length-take-le _ _ (reread-inside _ _ _ (w .0) (w .1) (c .before .enum-told .given .1)))
 
--- src/lib.rt:229:5
 read-requires : tie.Need-read-requires
 read-requires c κs = search needs
 
--- src/lib.rt:219:1
 same-length-2 : tie.Need-same-length-2
 same-length-2 c = search needs
 
--- src/lib.rt:219:1
 returns-2 : tie.Need-returns-2
-returns-2 c = ?
+returns-2 c =
+    let w = c .before .before .before .before .before .before .write .ensures in
+    (c .read .ensures ∙ reread-answers _ _ _ (w .0) (w .1) (c .before .before .enum-told .given .1) (layouts-eight (c .before .before .before .before .before .before .before .before .before .before)) (sessions-sixteen (c .before .before .before .before .before .before .before .before .before .before)), w .1)
 
 pub reread-spec : {M : Type 1} → statement M
 reread-spec =
