@@ -8,6 +8,7 @@ use Rattle.drive.specs.declared.Show.{Show}
 use Rattle.drive.specs.declared.refusal.Check.{Check}
 use Rattle.drive.specs.declared.refusal.Check.the-variants.{Within, Refused}
 use Rattle.drive.specs.declared.refusal.Refusal.{Refusal}
+use Rattle.showfile.specs.declared.Written.{Written}
 use Rattle.showfile.specs.Bytes.{rowBytes, over}
 use Rattle.showfile.specs.File.{layoutBytes, sessionBytes, trailerBytes, trailerFor, fileOf}
 use Rattle.showfile.specs.Answers.{written, writeCheck, writtenOf, bufferOf}
@@ -44,10 +45,10 @@ module _ (x : Show) (note b : List ℕ) where
 
   -- what `write` answers and leaves, by its test
   pub filed-refused :
-      {w : Refusal} → writeCheck x note (length b) ≡ Refused w →
-      (written (Refused w) 0 ≡ writtenOf x note (length b)) × (b ≡ bufferOf x note b)
+      {a : Written} {w : Refusal} → a ≡ written (Refused w) 0 → writeCheck x note (length b) ≡ Refused w →
+      (a ≡ writtenOf x note (length b)) × (b ≡ bufferOf x note b)
   unfolding writtenOf bufferOf
-  filed-refused e = (rw e, rw e)
+  filed-refused none e = (rw (none, e), rw e)
 
   pub filed-within :
       {b' : List ℕ} {n : ℕ} → writeCheck x note (length b) ≡ Within → n ≡ length (fileOf x note) →

@@ -9,12 +9,11 @@ use Rattle.drive.specs.declared.Session.{Session}
 use Rattle.drive.specs.declared.Show.{Show}
 use Rattle.drive.specs.declared.refusal.Check.{Check}
 use Rattle.drive.specs.declared.refusal.Check.the-variants.{Within, Refused}
-use Rattle.drive.specs.Checks.{first, limitsCheck}
 use Rattle.showfile.specs.declared.trailer.Trailer.{Trailer}
 use Rattle.showfile.specs.Bytes.{wordBytes, halfBytes, rowBytes}
 use Rattle.showfile.specs.File.{layoutBytes, sessionBytes, trailerOf, trailerBytes, fileOf}
-use Rattle.showfile.specs.Checks.{noteLength, lengthCheck, trailerCheck}
-use Rattle.showfile.specs.Answers.{reading, shownAt, readAt, readOf}
+use Rattle.showfile.specs.Checks.{noteLength}
+use Rattle.showfile.specs.Answers.{reading, shownAt, readCheck, readAt, readOf}
 use Rattle.showfile.proofs.ByteLaws.{four-length}
 use Rattle.showfile.proofs.RowLaws.{taken-length}
 
@@ -52,5 +51,4 @@ unfolding readOf readAt
 note-inside f =
     let at = length f - 20 in
     let t = trailerOf (drop at f) in
-    let c = first (lengthCheck (length f)) (first (trailerCheck at t) (limitsCheck (shownAt f at t))) in
-    note-least c (shownAt f at t) (noteLength at t) (length f) (omega arith)
+    note-least (readCheck f at t) (shownAt f at t) (noteLength at t) (length f) (omega arith)

@@ -18,7 +18,7 @@ use Rattle.drive.proofs.Shows.{limits-left}
 use Rattle.showfile.specs.declared.trailer.Trailer.{Trailer}
 use Rattle.showfile.specs.File.{trailerOf, fileOf, noShow}
 use Rattle.showfile.specs.Checks.{Distanced, distanced?, noteLength, trailerCheck}
-use Rattle.showfile.specs.Answers.{reading, shownAt, readAt, readOf, writeCheck}
+use Rattle.showfile.specs.Answers.{reading, shownAt, readCheck, readAt, readOf, writeCheck}
 use Rattle.showfile.proofs.Passed.{room-left}
 
 -- ---- a trailer: 2, 3, 4
@@ -46,18 +46,18 @@ module _ (at : ℕ) (t : Trailer) where
 
 module _ (f : List ℕ) where
   pub read-length : (Between 20 (length f) 1428 → ⊥) → reading (Refused FileLength) noShow 0 ≡ readOf f
-  unfolding readOf readAt
+  unfolding readOf readAt readCheck
   read-length h = rw (unless-broken (between? 20 (length f) 1428) FileLength h)
 
   module _ (size : Between 20 (length f) 1428) (t : Trailer) (last : t ≡ trailerOf (drop (length f - 20) f)) where
     pub read-trailer : {w : Refusal} → trailerCheck (length f - 20) t ≡ Refused w → reading (Refused w) noShow 0 ≡ readOf f
-    unfolding readOf readAt
+    unfolding readOf readAt readCheck
     read-trailer e = rw (← last, unless-kept (between? 20 (length f) 1428) FileLength size, e)
 
     pub read-rest :
         trailerCheck (length f - 20) t ≡ Within →
         reading (limitsCheck (shownAt f (length f - 20) t)) (shownAt f (length f - 20) t) (noteLength (length f - 20) t) ≡ readOf f
-    unfolding readOf readAt
+    unfolding readOf readAt readCheck
     read-rest e = rw (← last, unless-kept (between? 20 (length f) 1428) FileLength size, e)
 
 -- ---- writing: 2, 4, 5, 6, 7, 16

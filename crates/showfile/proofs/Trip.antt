@@ -24,6 +24,7 @@ use Rattle.showfile.specs.Checks.{noteLength, lengthCheck, roomCheck, tr
 use Rattle.showfile.specs.Answers.{
   reading,
   shownAt,
+  readCheck,
   readAt,
   readOf,
   noteOf,
@@ -63,7 +64,7 @@ reading-within Within x n e = refl
 reading-within (Refused w) x n e = e
 
 check-readable : (f : List ℕ) → readOf f .check ≡ Within → Readable f
-unfolding readOf readAt showFrom
+unfolding readOf readAt readCheck showFrom
 check-readable f e =
     let a = lengthCheck (length f) in
     let b = trailerCheck (end f) (last f) in
@@ -114,7 +115,7 @@ read-writable f b e room =
 pub file-read :
     (x : Show) (note : List ℕ) → length (x .layouts) ≡ 8 → length (x .sessions) ≡ 16 → ShowWithin x → length note ≤ 1024 →
     readOf (fileOf x note) ≡ reading Within (zeroed x) (length note)
-unfolding readOf readAt trailerFor
+unfolding readOf readAt readCheck trailerFor
 file-read x note hl hs w h =
     let f = fileOf x note in
     let at = length note + 16 * (x .laid + x .playing) in
@@ -175,9 +176,10 @@ module _ (x : Show) (note b : List ℕ) {r : Written} {b' : List ℕ} (wrote : r
         rw (size, filed, take-at f (drop (length f) b) (length f) refl, may) (file-read x note hl hs (w .within) (w .short))
 
 module _ (f b : List ℕ) {r : Reading} (got : r ≡ readOf f) where
-  pub copy-refused : {w : Refusal} → r .check ≡ Refused w → (written (Refused w) 0 ≡ copiedOf f (length b)) × (b ≡ copyOf f b)
+  pub copy-refused :
+      {a : Written} {w : Refusal} → a ≡ written (Refused w) 0 → r .check ≡ Refused w → (a ≡ copiedOf f (length b)) × (b ≡ copyOf f b)
   unfolding copiedOf copyOf copyCheck
-  copy-refused e = (rw (← got, e), rw (← got, e))
+  copy-refused none e = (rw (none, ← got, e), rw (← got, e))
 
   pub copy-answers :
       Bytes f → r .check ≡ Within → {a : Written} {b' : List ℕ} → a ≡ writtenOf (r .show) (take (r .note) f) (length b) →

@@ -19,14 +19,16 @@ abbrev pub reading : Check → Show → ℕ → Reading
 reading Within x n = record { check = Within; show = x; note = n }
 reading (Refused w) x n = record { check = Refused w; show = noShow; note = 0 }
 
--- the show of a file whose trailer t stands at `at`, within its limits: 5, 6, 7
+-- the show of a file whose trailer t stands at `at`
 abbrev pub shownAt : List ℕ → ℕ → Trailer → Show
 shownAt f at t = showFrom t (drop (noteLength at t) f)
 
 -- 1; 2, 3, 4; 5, 6, 7
+unfoldable pub readCheck : List ℕ → ℕ → Trailer → Check
+readCheck f at t = first (lengthCheck (length f)) (first (trailerCheck at t) (limitsCheck (shownAt f at t)))
+
 unfoldable pub readAt : List ℕ → ℕ → Trailer → Reading
-readAt f at t =
-    reading (first (lengthCheck (length f)) (first (trailerCheck at t) (limitsCheck (shownAt f at t)))) (shownAt f at t) (noteLength at t)
+readAt f at t = reading (readCheck f at t) (shownAt f at t) (noteLength at t)
 
 -- The trailer is the last twenty bytes.
 unfoldable pub readOf : List ℕ → Reading

@@ -1,7 +1,7 @@
 // The show file: reading it, writing it, and both one after the other. docs/RULES.md, section 6.
 mod bytes;
 mod rows;
-pub mod trailer;
+mod trailer;
 
 ghost use mathlib.Core.Path.{_≡_};
 ghost use mathlib.Core.List.{_++_};
@@ -12,7 +12,7 @@ ghost use Rattle.drive.specs.Checks.{limitsCheck};
 ghost use Rattle.drive.specs.Limits.{Between, Tells};
 ghost use Rattle.showfile.specs.File.{showFrom, fileOf, noShow};
 ghost use Rattle.showfile.specs.Checks.{noteLength, trailerCheck};
-ghost use Rattle.showfile.specs.Answers.{reading, readOf, noteOf, shownAt, writeCheck, writtenOf, bufferOf, rereadOf, copiedOf, copyOf};
+ghost use Rattle.showfile.specs.Answers.{reading, readOf, noteOf, shownAt, written, writeCheck, writtenOf, bufferOf, rereadOf, copiedOf, copyOf};
 use crate::bytes::put_bytes;
 use crate::rows::get_layouts;
 use crate::rows::get_sessions;
@@ -20,7 +20,6 @@ use crate::rows::put_layouts;
 use crate::rows::put_sessions;
 use crate::trailer::Trailer;
 use crate::trailer::get_trailer;
-use crate::trailer::note_within;
 use crate::trailer::put_trailer;
 use drive::Drive;
 use drive::Layout;
@@ -46,18 +45,29 @@ impl Reading {
     pub const FILE_LEAST: usize = 20;
 
     pub const FILE_MOST: usize = 1_428;
-}
 
-fn length_within(n: usize) -> bool
-    ensures { λ r. ⌜ Tells r (Between 20 n 1428) ⌝ }
-{
-    if n < Reading::FILE_LEAST {
-        return false;
+    pub const NOTE_MOST: usize = 1_024;
+
+    fn length_within(n: usize) -> bool
+        ensures { λ r. ⌜ Tells r (Between 20 n 1428) ⌝ }
+    {
+        if n < Reading::FILE_LEAST {
+            return false;
+        }
+        if Reading::FILE_MOST < n {
+            return false;
+        }
+        true
     }
-    if Reading::FILE_MOST < n {
-        return false;
+
+    pub(crate) fn note_within(n: usize) -> bool
+        ensures { λ r. ⌜ Tells r (n ≤ 1024) ⌝ }
+    {
+        if Reading::NOTE_MOST < n {
+            return false;
+        }
+        true
     }
-    true
 }
 
 fn refused(why: Refusal) -> Reading
@@ -137,7 +147,7 @@ pub fn read(file: &[u8]) -> Reading
     ensures { λ r. ⌜ r ≡ readOf (now (file .entry)) ⌝ }
 {
     let n = file.len();
-    if !length_within(n) {
+    if !Reading::length_within(n) {
         return refused(Refusal::FileLength);
     }
     let at = n - Trailer::LENGTH;
@@ -154,8 +164,17 @@ pub fn note(file: &[u8]) -> &[u8]
     ensures { λ r. ⌜ now r ≡ noteOf (now (file .entry)) ⌝ }
 {
     let got = read(file);
-    let n = got.note;
-    &file[..n]
+    let end = got.note;
+    &file[..end]
+}
+
+fn unwritten(why: Refusal) -> Written
+    ensures { λ r. ⌜ r ≡ written (Refused why) 0 ⌝ }
+{
+    Written {
+        check: Check::Refused(why),
+        len: 0,
+    }
 }
 
 // 2, 4, 5, 6, 7, 16, of a buffer of `room` bytes.
@@ -165,7 +184,7 @@ fn check_write(show: Show, note: &[u8], room: usize) -> Check
     if !Show::counts_within(show.laid, show.playing) {
         return Check::Refused(Refusal::Counts);
     }
-    if !note_within(note.len()) {
+    if !Reading::note_within(note.len()) {
         return Check::Refused(Refusal::NoteLength);
     }
     let check = show.check();
@@ -203,10 +222,7 @@ pub fn write(show: Show, note: &[u8], buffer: &mut [u8]) -> Written
 {
     let check = check_write(show, note, buffer.len());
     if let Check::Refused(why) = check {
-        return Written {
-            check: Check::Refused(why),
-            len: 0,
-        };
+        return unwritten(why);
     }
     let len = put_file(show, note, buffer);
     Written {
@@ -237,10 +253,7 @@ pub fn copy(file: &[u8], buffer: &mut [u8]) -> Written
     let got = read(file);
     let check = got.check;
     if let Check::Refused(why) = check {
-        return Written {
-            check: Check::Refused(why),
-            len: 0,
-        };
+        return unwritten(why);
     }
     let n = got.note;
     write(got.show, &file[..n], buffer)

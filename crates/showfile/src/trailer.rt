@@ -6,6 +6,7 @@ ghost use Rattle.drive.specs.Limits.{CountsWithin, Tells};
 ghost use Rattle.showfile.specs.Bytes.{over};
 ghost use Rattle.showfile.specs.File.{trailerOf, trailerBytes, trailerFor};
 ghost use Rattle.showfile.specs.Checks.{Distanced, trailerCheck};
+use crate::Reading;
 use crate::bytes::get_half;
 use crate::bytes::get_word;
 use crate::bytes::put_half;
@@ -26,8 +27,6 @@ pub struct Trailer {
 
 impl Trailer {
     pub const LENGTH: usize = 20;
-
-    pub const NOTE_MOST: usize = 1_024;
 
     pub(crate) fn of(show: Show) -> Trailer
         requires { ⌜ CountsWithin (show .laid) (show .playing) ⌝ }
@@ -69,20 +68,11 @@ impl Trailer {
         if !self.distanced(at) {
             return Check::Refused(Refusal::Distances);
         }
-        if !note_within(at - 16 * (self.laid + self.playing)) {
+        if !Reading::note_within(at - 16 * (self.laid + self.playing)) {
             return Check::Refused(Refusal::NoteLength);
         }
         Check::Within
     }
-}
-
-pub(crate) fn note_within(n: usize) -> bool
-    ensures { λ r. ⌜ Tells r (n ≤ 1024) ⌝ }
-{
-    if Trailer::NOTE_MOST < n {
-        return false;
-    }
-    true
 }
 
 pub(crate) fn get_trailer(s: &[u8], at: usize) -> Trailer

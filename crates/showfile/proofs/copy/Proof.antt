@@ -1,5 +1,5 @@
 -- `copy` writes what it read. Assumes nothing.
-use mathlib.Core.Path.{_≡_, sym}
+use mathlib.Core.Path.{sym}
 use Prim.Native.Nat.{_≤_}
 use lib.ListN.{length}
 use lib.Seq.{length-take-le}
@@ -15,8 +15,11 @@ read-requires c κs = search needs
 enum-known-check : tie.Need-enum-known-check
 enum-known-check c = search needs
 
+unwritten-requires : tie.Need-unwritten-requires
+unwritten-requires c κs = search needs
+
 returns : tie.Need-returns
-returns c = copy-refused _ _ (c .before .before .before .read .ensures) (c .before .check .given .1)
+returns c = copy-refused _ _ (c .before .before .before .before .read .ensures) (c .unwritten .ensures) (c .before .before .check .given .1)
 
 enum-told : tie.Need-enum-told
 enum-told c = search needs
@@ -42,6 +45,7 @@ copy-spec =
     (tie.spec
     read-requires
     enum-known-check
+    unwritten-requires
     returns
     enum-told
     slice-aggregate-write

@@ -11,8 +11,11 @@ check-write-requires c κs = search needs
 enum-known-check : tie.Need-enum-known-check
 enum-known-check c = search needs
 
+unwritten-requires : tie.Need-unwritten-requires
+unwritten-requires c κs = search needs
+
 returns : tie.Need-returns
-returns c = filed-refused _ _ _ (sym (c .before .before .before .check-write .ensures) ∙ c .before .check .given .1)
+returns c = filed-refused _ _ _ (c .unwritten .ensures) (sym (c .before .before .before .before .check-write .ensures) ∙ c .before .before .check .given .1)
 
 enum-told : tie.Need-enum-told
 enum-told c = search needs
@@ -32,6 +35,7 @@ write-spec =
     (tie.spec
     check-write-requires
     enum-known-check
+    unwritten-requires
     returns
     enum-told
     put-file-requires
