@@ -5,7 +5,6 @@ use mathlib.Core.List.{List, _++_, append-assoc}
 use native.Mathlib.Omega.{arith}
 use lib.ListN.{length, take, drop, length-append}
 use Rattle.drive.specs.declared.Show.{Show}
-use Rattle.drive.specs.declared.refusal.Check.{Check}
 use Rattle.drive.specs.declared.refusal.Check.the-variants.{Within, Refused}
 use Rattle.drive.specs.declared.refusal.Refusal.{Refusal}
 use Rattle.showfile.specs.declared.Written.{Written}

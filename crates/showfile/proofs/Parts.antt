@@ -1,12 +1,13 @@
 -- The parts of a file, there and back: its trailer, its rows, and the show that they make. Assumes nothing.
 use Prim.Native.Nat.{ℕ, _+_, _*_, _-_, _≤_, _<_}
-use mathlib.Core.Path.{_≡_, refl, ap, _∙_}
+use mathlib.Core.Path.{_≡_, refl, sym, ap, _∙_}
 use mathlib.Core.List.{List, _++_, append-assoc}
 use native.Mathlib.Omega.{arith}
 use lib.ListN.{length, take, drop, getD, replicate, length-append, length-drop, List·getD-append}
 use lib.Seq.{drop-drop, drop-at, take-at, getD-take, length-take-le}
 use Rattle.drive.specs.declared.Show.{Show}
-use Rattle.drive.specs.Limits.{LayoutWithin, SessionWithin, ShowWithin, noLayout, noSession}
+use Rattle.drive.specs.Limits.{LayoutWithin, SessionWithin, ShowWithin, Alike, noLayout, noSession}
+use Rattle.drive.proofs.Shows.{check-within, within-check, alike-check}
 use Rattle.showfile.specs.declared.trailer.Trailer.{Trailer}
 use Rattle.showfile.specs.Bytes.{Bytes, rowOf, rowBytes, padded}
 use Rattle.showfile.specs.File.{
@@ -65,6 +66,18 @@ padded-at k z l n i h m =
     let inside : i < length (take n l) = omega (arith, length-take-le n l h) in
     rw (List·getD-append, getD-take)
 
+-- zeros in the unused places leave the same show
+pub zeroed-alike : (x : Show) → x .laid ≤ length (x .layouts) → x .playing ≤ length (x .sessions) → Alike x (zeroed x)
+unfolding zeroed
+zeroed-alike x hl hs =
+    record {
+      drive = refl;
+      laid = refl;
+      playing = refl;
+      layouts = λ i l. sym (padded-at 8 noLayout (x .layouts) (x .laid) i hl l);
+      sessions = λ i l. sym (padded-at 16 noSession (x .sessions) (x .playing) i hs l);
+    }
+
 module _ (x : Show) (hl : x .laid ≤ length (x .layouts)) (hs : x .playing ≤ length (x .sessions)) (w : ShowWithin x) where
   pub trailer-read :
       (note : List ℕ) → trailerOf (drop (length note + 16 * (x .laid + x .playing)) (fileOf x note)) ≡ trailerFor x
@@ -95,11 +108,4 @@ module _ (x : Show) (hl : x .laid ≤ length (x .layouts)) (hs : x .playing ≤ 
       )
 
   pub zeroed-within : ShowWithin (zeroed x)
-  unfolding zeroed
-  zeroed-within =
-      record {
-        counts = w .counts;
-        drive = w .drive;
-        layouts = λ i l. rw (padded-at 8 noLayout (x .layouts) (x .laid) i hl l) (w .layouts i l);
-        sessions = λ i l. rw (padded-at 16 noSession (x .sessions) (x .playing) i hs l) (w .sessions i l);
-      }
+  zeroed-within = check-within (zeroed x) (sym (alike-check x (zeroed x) (zeroed-alike x hl hs)) ∙ within-check x w)

@@ -1,12 +1,11 @@
 -- Where reading and writing stop, and with what: one law for each test. Assumes nothing.
 use Prim.Native.Nat.{ℕ, _-_, _≤_, _<_}
-use mathlib.Core.Path.{_≡_, sym, ap, _∙_}
+use mathlib.Core.Path.{_≡_, sym, _∙_}
 use mathlib.Core.List.{List}
 use native.Mathlib.Omega.{arith}
 use native.Mathlib.Decide.{decLe}
 use lib.ListN.{length, drop}
 use Rattle.drive.specs.declared.Show.{Show}
-use Rattle.drive.specs.declared.refusal.Check.{Check}
 use Rattle.drive.specs.declared.refusal.Check.the-variants.{Within, Refused}
 use Rattle.drive.specs.declared.refusal.Refusal.{Refusal}
 use Rattle.drive.specs.declared.refusal.Refusal.the-variants.{FileLength, Counts, Distances, NoteLength, BufferShort}

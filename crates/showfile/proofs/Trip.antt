@@ -139,6 +139,12 @@ file-read x note hl hs w h =
       within-limits (zeroed x) (zeroed-within x laid playing w),
     )
 
+pub note-read :
+    (x : Show) (note : List ℕ) → length (x .layouts) ≡ 8 → length (x .sessions) ≡ 16 → ShowWithin x → length note ≤ 1024 →
+    noteOf (fileOf x note) ≡ note
+unfolding fileOf
+note-read x note hl hs w h = rw (file-read x note hl hs w h) (take-at note _ (length note) refl)
+
 -- ---- there and back in one call, by what its first half answered
 
 written-check : (c : Check) (n : ℕ) → written c n .check ≡ c

@@ -1,5 +1,4 @@
 -- `answer` puts zeros where a check is refused. Assumes nothing.
-use mathlib.Core.Path.{_∙_}
 use borrow.Author.Needs.{needs}
 use Rattle.showfile.proofs.answer.Statement.{statement}
 use Rattle.showfile.proofs.answer.Tie as tie
