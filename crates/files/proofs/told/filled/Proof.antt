@@ -1,0 +1,52 @@
+-- `files::told::filled` is safe and ends. The invariant: `i` is within the buffer. The measure: the bytes that are left.
+-- Assumes nothing.
+use Prim.Native.Nat.{_≤_, _-_}
+use lib.ListN.{length}
+use borrow.Author.Needs.{needs}
+use Rattle.files.proofs.told.filled.Statement.{statement}
+use Rattle.files.proofs.told.filled.Tie as tie
+
+abbrev Inv-loop : tie.InvT-loop
+Inv-loop buffer i₀ i = i ≤ length buffer
+
+abbrev μ-loop : tie.MeasureT-loop
+μ-loop buffer i₀ i = length buffer - i
+
+loop-holds : tie.Need-loop-holds Inv-loop μ-loop
+loop-holds c = search needs
+
+shared-slice-read-if1 : tie.Need-shared-slice-read-if1 Inv-loop μ-loop
+shared-slice-read-if1 c = search needs
+
+before-requires : tie.Need-before-requires Inv-loop μ-loop
+before-requires c κs = search needs
+
+returns : tie.Need-returns Inv-loop μ-loop
+returns c = search needs
+
+add-i : tie.Need-add-i Inv-loop μ-loop
+add-i c = search needs
+
+loop-less : tie.Need-loop-less Inv-loop μ-loop
+loop-less c = search needs
+
+loop-again : tie.Need-loop-again Inv-loop μ-loop
+loop-again c = search needs
+
+returns-2 : tie.Need-returns-2 Inv-loop μ-loop
+returns-2 c = search needs
+
+pub filled-spec : {M : Type 1} → statement M
+filled-spec =
+    tie.close
+    (tie.spec
+    Inv-loop
+    μ-loop
+    loop-holds
+    shared-slice-read-if1
+    before-requires
+    returns
+    add-i
+    loop-less
+    loop-again
+    returns-2)
