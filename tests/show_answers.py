@@ -5,33 +5,20 @@
   tests/show_answers.py --check     holds these rules to the answers in tests/data, which came from elsewhere
 """
 import pathlib, re, sys
+from limits import LAYOUTS, SESSIONS, counts_ok, fault, within
 
 FILE_LEAST, FILE_MOST, NOTE_MOST, TRAILER = 20, 1428, 1024, 20
-LAYOUTS, SESSIONS, ROW = 8, 16, 16
+ROW = 16
 NONE = (0, 0, 0, 0)
 ROOM_MOST = 4096    # what the program itself has room for
 
 class Refused(Exception):
     """Its arguments are the number and the place."""
 
-# ---- the limits
-
-def within(value, least, most):
-    return least <= value <= most
-
-def drive_ok(block, cylinder):
-    return within(block, 512, 65536) and block % 512 == 0 and within(cylinder, 1, 65536)
-
-def layout_ok(y):
-    longest, track, time, rotation = y
-    return within(longest, 0, 10**6) and within(track, 0, longest) and within(time, 1, 10**6) and within(rotation, 0, 10**6)
-
-def session_ok(x, laid):
-    rate, cushion, buffer, layout = x
-    return within(rate, 1, 10**8) and within(cushion, 1, 2**24) and within(buffer, 1, 2**30) and layout < laid
+# ---- the tests, each for its number
 
 def test_counts(laid, playing):
-    if not within(laid, 1, LAYOUTS) or playing > SESSIONS:
+    if not counts_ok(laid, playing):
         raise Refused(2, 0)
 
 def test_note(length):
@@ -39,15 +26,9 @@ def test_note(length):
         raise Refused(4, 0)
 
 def test_limits(drive, layouts, sessions):
-    """5, 6, 7: of the places that are used."""
-    if not drive_ok(*drive):
-        raise Refused(5, 0)
-    for i, y in enumerate(layouts):
-        if not layout_ok(y):
-            raise Refused(6, i)
-    for i, x in enumerate(sessions):
-        if not session_ok(x, len(layouts)):
-            raise Refused(7, i)
+    no = fault(drive, layouts, sessions)
+    if no is not None:
+        raise Refused(*no)
 
 # ---- a show file; a show is its drive, the layouts that are used, the sessions that are used
 

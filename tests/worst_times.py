@@ -3,37 +3,18 @@
 
   tests/worst_times.py > crates/times/stdout
 """
+from limits import counts_ok, fault
 
-def within(value, least, most):
-    return least <= value <= most
-
-def layout_ok(y):
-    longest, track, time, rotation = y
-    return within(longest, 0, 10**6) and within(track, 0, longest) and within(time, 1, 10**6) and within(rotation, 0, 10**6)
-
-def session_ok(x, laid):
-    rate, cushion, buffer, layout = x
-    return within(rate, 1, 10**8) and within(cushion, 1, 2**24) and within(buffer, 1, 2**30) and layout < laid
-
-def fault(show):
+def refusal(show, i):
     """The number and place of the first refusal, or None."""
-    (block, cylinder), layouts, laid, sessions, playing = show
-    if not within(laid, 1, 8) or playing > 16:
+    drive, layouts, laid, sessions, playing = show
+    if not counts_ok(laid, playing):
         return 2, 0
-    if not (within(block, 512, 65536) and block % 512 == 0 and within(cylinder, 1, 65536)):
-        return 5, 0
-    for i in range(laid):
-        if not layout_ok(layouts[i]):
-            return 6, i
-    for i in range(playing):
-        if not session_ok(sessions[i], laid):
-            return 7, i
-    return None
+    no = fault(drive, layouts[:laid], sessions[:playing])
+    return (9, 0) if no is None and i >= playing else no
 
 def worst(show, i, n):
-    no = fault(show)
-    if no is None and i >= show[4]:
-        no = 9, 0
+    no = refusal(show, i)
     if no is not None:
         return 'refused %d %d' % no
     (_, cylinder), layouts, _, sessions, _ = show
