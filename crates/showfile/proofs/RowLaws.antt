@@ -4,14 +4,10 @@ use mathlib.Core.List.{List, [], _∷_, _++_, append-assoc, append-nil}
 use Prim.Native.Nat.{ℕ, zero, suc, _+_, _*_, _-_, _≤_, _<_}
 use native.Mathlib.Numerals.{add-one}
 use native.Mathlib.Omega.{arith}
-use lib.ListN.{length, take, drop, getD, set, replicate, length-append, length-replicate}
+use lib.ListN.{length, take, drop, getD, set, replicate, length-append}
 use lib.Seq.{drop-drop, set-at, take-suc, length-take-le}
 use Rattle.showfile.specs.Bytes.{rowOf, rowBytes, padded, over}
 use Rattle.showfile.proofs.ByteLaws.{over-then}
-
-pub padded-length : {A : Type 0} (k : ℕ) (z : A) (l : List A) → length l ≤ k → length (padded k z l) ≡ k
-unfolding padded
-padded-length k z l h = simp (length-append, length-replicate) (omega arith)
 
 -- ---- read
 

@@ -80,6 +80,10 @@ check-readable f e =
       is = ap (λ (c : Check). reading c x n) all;
     }
 
+-- What is read is within every limit.
+pub read-within : (f : List ℕ) → readOf f .check ≡ Within → ShowWithin (readOf f .show)
+read-within f e = let g = check-readable f e in rw (g .is) (g .within)
+
 -- Writing what was read gives the same bytes.
 pub file-written : (f : List ℕ) → Bytes f → readOf f .check ≡ Within → fileOf (readOf f .show) (noteOf f) ≡ f
 file-written f b e =
@@ -104,10 +108,9 @@ pub read-writable :
     writeCheck (readOf f .show) (noteOf f) room ≡ roomCheck (length f) room
 read-writable f b e room =
     let g = check-readable f e in
-    let within : ShowWithin (readOf f .show) = rw (g .is) (g .within) in
     let note : readOf f .note ≤ 1024 = rw (g .is) (g .framed .note) in
     let short : length (noteOf f) ≤ 1024 = rw (length-take-le (readOf f .note) f (note-inside f)) note in
-    room-left (readOf f .show) (noteOf f) room within short ∙ ap (λ (s : List ℕ). roomCheck (length s) room) (file-written f b e)
+    room-left (readOf f .show) (noteOf f) room (read-within f e) short ∙ ap (λ (s : List ℕ). roomCheck (length s) room) (file-written f b e)
 
 -- ---- written, then read
 
