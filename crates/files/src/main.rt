@@ -90,7 +90,7 @@ fn case(line: &[u8], file: &mut [u8], buffer: &mut [u8]) -> bool {
     false
 }
 
-// Prints nothing where a second call is refused as the first was, or what it answers.
+// Prints what a second call answers, unless it is refused as the first was.
 fn unlike(why: Refusal, second: Check) {
     let Check::Refused(other) = second else {
         say(b" granted");

@@ -1,14 +1,17 @@
 -- How long the parts of a file are, and that a note is a part of its file. Assumes nothing.
 use Prim.Native.Nat.{ℕ, _+_, _*_, _-_, _≤_}
-use mathlib.Core.Path.{_≡_, refl}
+use mathlib.Core.Path.{_≡_, refl, sym}
 use mathlib.Core.List.{List}
 use native.Mathlib.Omega.{arith}
 use lib.ListN.{length, take, drop, length-append}
+use lib.Seq.{length-take-le}
 use Rattle.drive.specs.declared.Layout.{Layout}
 use Rattle.drive.specs.declared.Session.{Session}
 use Rattle.drive.specs.declared.Show.{Show}
 use Rattle.drive.specs.declared.refusal.Check.{Check}
 use Rattle.drive.specs.declared.refusal.Check.the-variants.{Within, Refused}
+use Rattle.drive.specs.Limits.{CountsWithin}
+use Rattle.showfile.specs.declared.Reading.{Reading}
 use Rattle.showfile.specs.declared.trailer.Trailer.{Trailer}
 use Rattle.showfile.specs.Bytes.{wordBytes, halfBytes, rowBytes}
 use Rattle.showfile.specs.File.{layoutBytes, sessionBytes, trailerOf, trailerBytes, fileOf}
@@ -42,6 +45,12 @@ pub file-length :
 unfolding fileOf
 file-length x note hl hs = simp (length-append, layouts-length x hl, sessions-length x hs, trailer-length) (omega arith)
 
+-- of a show as a program holds it
+pub shown-length :
+    (x : Show) (note : List ℕ) → length (x .layouts) ≡ 8 → length (x .sessions) ≡ 16 → CountsWithin (x .laid) (x .playing) →
+    length (fileOf x note) ≡ length note + 16 * (x .laid + x .playing) + 20
+shown-length x note hl hs c = file-length x note (omega arith) (omega arith)
+
 note-least : (c : Check) (x : Show) (n m : ℕ) → n ≤ m → reading c x n .note ≤ m
 note-least Within x n m h = h
 note-least (Refused w) x n m h = omega arith
@@ -52,3 +61,7 @@ note-inside f =
     let at = length f - 20 in
     let t = trailerOf (drop at f) in
     note-least (readCheck f at t) (shownAt f at t) (noteLength at t) (length f) (omega arith)
+
+-- a reading's note, as a part of its file
+pub note-part : (f : List ℕ) {r : Reading} → r ≡ readOf f → r .note ≡ length (take (r .note) f)
+note-part f {r} e = let inside : r .note ≤ length f = rw e (note-inside f) in sym (length-take-le (r .note) f inside)

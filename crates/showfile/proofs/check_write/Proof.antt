@@ -10,7 +10,7 @@ use Rattle.drive.proofs.Lists.{unmapped}
 use Rattle.drive.proofs.Shows.{check-within}
 use Rattle.showfile.specs.File.{fileOf}
 use Rattle.showfile.proofs.Stops.{write-counts, write-note, write-limits, write-short, write-within}
-use Rattle.showfile.proofs.Sizes.{file-length}
+use Rattle.showfile.proofs.Sizes.{shown-length}
 use borrow.Author.Needs.{needs}
 use Rattle.showfile.proofs.check_write.Statement.{statement}
 use Rattle.showfile.proofs.check_write.Tie as tie
@@ -33,11 +33,7 @@ within c = check-within _ (sym (c .before .before .check .ensures) ∙ c .enum-t
 size : (c : tie.After-enum-told) →
     length (fileOf (c .before .before .before .before .before .before .before .before .args .show) (c .before .before .before .before .before .before .before .before .args .note .now))
     ≡ length (c .before .before .before .before .before .before .before .before .args .note .now) + 16 * (c .before .before .before .before .before .before .before .before .args .show .laid + c .before .before .before .before .before .before .before .before .args .show .playing) + 20
-size c =
-    let w = within c .counts in
-    let l = layouts-eight (c .before .before .before .before .before .before .before .before) in
-    let s = sessions-sixteen (c .before .before .before .before .before .before .before .before) in
-    file-length (c .before .before .before .before .before .before .before .before .args .show) (c .before .before .before .before .before .before .before .before .args .note .now) (omega arith) (omega arith)
+size c = shown-length _ _ (layouts-eight (c .before .before .before .before .before .before .before .before)) (sessions-sixteen (c .before .before .before .before .before .before .before .before)) (within c .counts)
 
 counts-within-requires : tie.Need-counts-within-requires
 counts-within-requires c κs = search needs

@@ -1,9 +1,5 @@
 -- `copy` writes what it read. Assumes nothing.
-use mathlib.Core.Path.{sym}
-use Prim.Native.Nat.{_≤_}
-use lib.ListN.{length}
-use lib.Seq.{length-take-le}
-use Rattle.showfile.proofs.Sizes.{note-inside}
+use Rattle.showfile.proofs.Sizes.{note-part}
 use Rattle.showfile.proofs.Trip.{copy-refused, copy-answers}
 use borrow.Author.Needs.{needs}
 use Rattle.showfile.proofs.copy.Statement.{statement}
@@ -25,10 +21,7 @@ enum-told : tie.Need-enum-told
 enum-told c = search needs
 
 slice-aggregate-write : tie.Need-slice-aggregate-write
-slice-aggregate-write c =
-    let f = c .before .before .before .before .before .before .args .file .now in
-    let h : c .before .before .before .read .result .note ≤ length f = rw (c .before .before .before .read .ensures) (note-inside f) in
-    sym (length-take-le (c .before .before .before .read .result .note) f h)
+slice-aggregate-write c = note-part _ (c .before .before .before .read .ensures)
 
 write-requires : tie.Need-write-requires
 write-requires c κs = search needs

@@ -1,10 +1,8 @@
 -- `note` hands back the front of the file. Assumes nothing.
-use mathlib.Core.Path.{sym, ap}
-use Prim.Native.Nat.{_≤_}
-use lib.ListN.{length, take}
-use lib.Seq.{length-take-le}
+use mathlib.Core.Path.{ap}
+use lib.ListN.{take}
 use Rattle.showfile.specs.declared.Reading.{Reading}
-use Rattle.showfile.proofs.Sizes.{note-inside}
+use Rattle.showfile.proofs.Sizes.{note-part}
 use borrow.Author.Needs.{needs}
 use Rattle.showfile.proofs.note.Statement.{statement}
 use Rattle.showfile.proofs.note.Tie as tie
@@ -13,10 +11,7 @@ read-requires : tie.Need-read-requires
 read-requires c κs = search needs
 
 slice-aggregate-result : tie.Need-slice-aggregate-result
-slice-aggregate-result c =
-    let f = c .before .before .before .args .file .now in
-    let h : c .before .read .result .note ≤ length f = rw (c .before .read .ensures) (note-inside f) in
-    sym (length-take-le (c .before .read .result .note) f h)
+slice-aggregate-result c = note-part _ (c .before .read .ensures)
 
 returns : tie.Need-returns
 returns c = ap (λ (r : Reading). take (r .note) (c .before .before .before .args .file .now)) (c .before .read .ensures)
