@@ -1,9 +1,10 @@
 -- The costs of a show within its limits, and the worst time of its sessions. Assumes nothing.
 use Prim.Native.Nat.{ℕ, _+_, _*_, _≤_, _<_}
 use mathlib.Core.Path.{_≡_, refl, sym, ap, _∙_}
-use mathlib.Core.Logic.{if-pos}
+use mathlib.Core.Logic.{ite, if-pos, if-neg}
 use native.Mathlib.Omega.{arith}
 use native.Mathlib.Decide.{decLt}
+use lib.ListN.{getD}
 use Rattle.drive.specs.declared.Drive.{Drive}
 use Rattle.drive.specs.declared.Layout.{Layout}
 use Rattle.drive.specs.declared.Show.{Show}
@@ -18,7 +19,8 @@ use Rattle.drive.specs.Limits.{LayoutWithin, ShowWithin, Alike, layoutAt
 use Rattle.drive.specs.Checks.{unless, showCheck}
 use Rattle.drive.specs.Bound.{Modest, Limited, Cheaper, BoundLaws, ceil, edges, worstTime, weight, spareOf}
 use Rattle.drive.specs.Decisions.{limited?}
-use Rattle.drive.specs.Worst.{readCost, costOf, timeOf, worstOf}
+use Rattle.drive.specs.Worst.{readCost, costOf, noCost, placed, costsOf, timeOf, worstOf}
+use Rattle.drive.proofs.Lists.{filled-at}
 use Rattle.drive.proofs.Checks.{unless-kept, unless-broken}
 use Rattle.drive.proofs.Bound.{worst-laws}
 use Rattle.drive.proofs.Shows.{check-within, alike-check}
@@ -63,6 +65,24 @@ module _ (s : Show) (w : ShowWithin s) (i : ℕ) (l : i < s .playing) where
 pub time-takes : (c : Cost) → Limited c → (N n : ℕ) → timeOf c N n ≡ time.Takes (worstTime N c n)
 unfolding timeOf
 time-takes c l N n = if-pos (limited? c) l (time.Takes (worstTime N c n)) time.Beyond
+
+-- How many sessions have a place.
+pub placed-few : (s : Show) → s .playing ≤ 16 → placed s ≡ s .playing
+unfolding placed
+placed-few s h = from (decLt (s .playing) 16)
+  where
+    from : Dec (s .playing < 16) → ite (decLt (s .playing) 16) (s .playing) 16 ≡ s .playing
+    from (yes l) = if-pos (decLt (s .playing) 16) l (s .playing) 16
+    from (no l) = if-neg (decLt (s .playing) 16) l (s .playing) 16 ∙ omega arith
+
+pub placed-full : (s : Show) → 16 ≤ s .playing → placed s ≡ 16
+unfolding placed
+placed-full s h = if-neg (decLt (s .playing) 16) (λ l. omega arith) (s .playing) 16
+
+-- The row of costs has each session's at its place.
+pub costs-at : (s : Show) → s .playing ≤ 16 → (i : ℕ) → i < s .playing → getD (costsOf s) i noCost ≡ costOf s i
+unfolding costsOf
+costs-at s h i l = filled-at 16 noCost (costOf s) (placed s) i noCost (rw (placed-few s h) l)
 
 -- Shows that agree below their counts have the same costs there ..
 pub alike-cost : (s t : Show) → Alike s t → ShowWithin s → (i : ℕ) → i < s .playing → costOf s i ≡ costOf t i

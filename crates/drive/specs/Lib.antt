@@ -1,3 +1,4 @@
+pub mod Lists
 pub mod Limits
 pub mod Bound
 pub mod Decisions

@@ -2,7 +2,7 @@
 ghost use mathlib.Core.Path.{_≡_};
 ghost use Rattle.drive.specs.Limits.{Tells, sessionAt, layoutAt};
 ghost use Rattle.drive.specs.Bound.{Limited, edges, worstTime};
-ghost use Rattle.drive.specs.Worst.{readCost, costOf, timeOf, worstOf};
+ghost use Rattle.drive.specs.Worst.{readCost, costOf, costsOf, timeOf, worstOf};
 use crate::Layout;
 use crate::Session;
 use crate::Show;
@@ -130,6 +130,31 @@ impl Show {
         let session = self.session(i);
         let at = session.layout as usize;
         read_cost(self.layout(at))
+    }
+
+    // What the operations of each session cost, zeros in the places above: one call where `cost` would copy the show for each.
+    pub fn costs(self) -> [Cost; 16]
+        ensures { λ r. ⌜ r ≡ costsOf self ⌝ }
+    {
+        let none = Cost {
+            fixed: 0,
+            each: 0,
+            cross: 0,
+        };
+        let mut costs = [none; 16];
+        let mut i = 0;
+        while i < self.playing {
+            if Show::PLAYING_MOST <= i {
+                return costs;
+            }
+            let session = self.sessions[i];
+            let at = session.layout as usize;
+            if at < Show::LAID_MOST {
+                costs[i] = read_cost(self.layouts[at]);
+            }
+            i += 1;
+        }
+        costs
     }
 
     // U(n) of session i: 2, 5, 6, 7, then 9.

@@ -13,7 +13,8 @@ use Rattle.drive.specs.Checks.{limitsCheck, showCheck}
 use Rattle.drive.proofs.Shows.{limits-left}
 use Rattle.showfile.specs.declared.Reading.{Reading}
 use Rattle.showfile.specs.declared.trailer.Trailer.{Trailer}
-use Rattle.showfile.specs.Bytes.{halfOf, wordOf, rowOf, padded}
+use Rattle.drive.specs.Lists.{padded}
+use Rattle.showfile.specs.Bytes.{halfOf, wordOf, rowOf}
 use Rattle.showfile.specs.File.{layoutOf, sessionOf, trailerOf, showFrom}
 use Rattle.showfile.specs.Answers.{reading}
 

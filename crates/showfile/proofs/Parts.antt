@@ -9,7 +9,8 @@ use Rattle.drive.specs.declared.Show.{Show}
 use Rattle.drive.specs.Limits.{LayoutWithin, SessionWithin, ShowWithin, Alike, noLayout, noSession}
 use Rattle.drive.proofs.Shows.{check-within, within-check, alike-check}
 use Rattle.showfile.specs.declared.trailer.Trailer.{Trailer}
-use Rattle.showfile.specs.Bytes.{Bytes, rowOf, rowBytes, padded}
+use Rattle.drive.specs.Lists.{padded}
+use Rattle.showfile.specs.Bytes.{Bytes, rowOf, rowBytes}
 use Rattle.showfile.specs.File.{
   layoutOf,
   layoutBytes,

@@ -5,8 +5,10 @@ use Prim.Native.Nat.{ℕ, zero, suc, _+_, _*_, _-_, _≤_, _<_}
 use native.Mathlib.Numerals.{add-one}
 use native.Mathlib.Omega.{arith}
 use lib.ListN.{length, take, drop, getD, set, replicate, length-append}
-use lib.Seq.{drop-drop, set-at, take-suc, length-take-le}
-use Rattle.showfile.specs.Bytes.{rowOf, rowBytes, padded, over}
+use lib.Seq.{drop-drop, take-suc, length-take-le}
+use Rattle.drive.specs.Lists.{padded}
+use Rattle.showfile.specs.Bytes.{rowOf, rowBytes, over}
+use Rattle.drive.proofs.Lists.{padded-none, padded-more}
 use Rattle.showfile.proofs.ByteLaws.{over-then}
 
 -- ---- read
@@ -26,17 +28,14 @@ module _ {A : Type 0} (of : List ℕ → A) where
 
   -- a row that is filled from the front, a record a turn
   pub row-none : (k : ℕ) (z : A) (s : List ℕ) → replicate k z ≡ padded k z (rowOf of 0 s)
-  unfolding padded rowOf
-  row-none k z s = let e : k - 0 ≡ k = omega arith in rw e
+  unfolding rowOf
+  row-none k z s = padded-none k z
 
   pub row-more :
       (k i : ℕ) (s : List ℕ) (z : A) → i < k →
       set (padded k z (rowOf of i s)) i (of (drop (i * 16) s)) ≡ padded k z (rowOf of (i + 1) s)
-  unfolding padded
   row-more k i s z h =
-      let e : k - i ≡ suc (k - (i + 1)) = omega arith in
-      rw (row-length i s, row-length (i + 1) s, e) (set-at (rowOf of i s) z (replicate (k - (i + 1)) z) (of (drop (i * 16) s)) i (row-length i s)
-      ∙ rw (add-one i, row-suc i s, append-assoc))
+      padded-more k z (rowOf of i s) (of (drop (i * 16) s)) i (row-length i s) h ∙ rw (add-one i, row-suc i s)
 
 -- ---- written
 

@@ -35,10 +35,6 @@ unfoldable pub rowBytes : {A : Type 0} → (A → List ℕ) → List A → List 
 rowBytes bytes [] = []
 rowBytes bytes (a ∷ l) = bytes a ++ rowBytes bytes l
 
--- k places: those of l, and z in the places above
-unfoldable pub padded : {A : Type 0} → ℕ → A → List A → List A
-padded k z l = l ++ replicate (k - length l) z
-
 -- b with the bytes vs from `at` on
 unfoldable pub over : List ℕ → ℕ → List ℕ → List ℕ
 over b at vs = take at b ++ (vs ++ drop (at + length vs) b)

@@ -7,7 +7,8 @@ use Rattle.drive.specs.declared.Session.{Session}
 use Rattle.drive.specs.declared.Show.{Show}
 use Rattle.drive.specs.Limits.{noLayout, noSession}
 use Rattle.showfile.specs.declared.trailer.Trailer.{Trailer}
-use Rattle.showfile.specs.Bytes.{halfOf, wordOf, halfBytes, wordBytes, fourBytes, rowOf, rowBytes, padded}
+use Rattle.drive.specs.Lists.{padded}
+use Rattle.showfile.specs.Bytes.{halfOf, wordOf, halfBytes, wordBytes, fourBytes, rowOf, rowBytes}
 
 -- a layout: longest seek, one-track seek, block time, rotation
 unfoldable pub layoutOf : List ℕ → Layout

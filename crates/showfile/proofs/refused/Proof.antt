@@ -1,6 +1,6 @@
 -- A refusal has zeros beside it. Assumes nothing.
 use mathlib.Core.Path.{refl}
-use Rattle.showfile.specs.Bytes.{padded}
+use Rattle.drive.specs.Lists.{padded}
 use Rattle.showfile.specs.File.{noShow}
 use Rattle.showfile.proofs.refused.Statement.{statement}
 use Rattle.showfile.proofs.refused.Tie as tie

@@ -5,7 +5,8 @@ use native.Mathlib.Omega.{arith}
 use lib.ListN.{drop}
 use lib.Seq.{drop-drop}
 use Rattle.drive.specs.Limits.{noSession}
-use Rattle.showfile.specs.Bytes.{rowOf, padded}
+use Rattle.drive.specs.Lists.{padded}
+use Rattle.showfile.specs.Bytes.{rowOf}
 use Rattle.showfile.specs.File.{sessionOf}
 use Rattle.showfile.proofs.RowLaws.{row-none, row-more}
 use Rattle.showfile.proofs.rows.get_sessions.Statement.{statement}

@@ -1,0 +1,6 @@
+pub mod Sum
+pub mod Search
+pub mod Rounds
+pub mod Overload
+pub mod Lighter
+pub mod Shows

@@ -1,0 +1,76 @@
+-- A lighter load stays accepted, with no larger counts and no longer a round. Of U the law `rises` is cited. Assumes nothing.
+use Prim.Native.Nat.{ℕ, _≤_, _<_}
+use mathlib.Core.Path.{_≡_, _∙_}
+use native.Mathlib.Omega.{arith}
+use native.Mathlib.Nat.{le-refl, le-trans, lt-of-le-of-lt, mul-le-mul}
+use Rattle.drive.proofs.Bound.{bound-grows}
+use Rattle.theory.specs.Counts.{Stream, Load, Sound, unit, roundTime, Augmenting, Feasible, Good, Accepted, Smallest}
+use Rattle.theory.specs.Rounds.{asked, Sustains, LeastTime}
+use Rattle.theory.specs.Lighter.{Light, Lighter}
+use Rattle.theory.proofs.Sum.{sum-grows, sum-part}
+use Rattle.theory.proofs.Rounds.{need-grows, unit-some}
+
+light-then : (c d f : Stream) → Light c d → Light d f → Light c f
+light-then c d f p q =
+    record {
+      rate = le-trans (p .rate) (q .rate);
+      cushion = le-trans (p .cushion) (q .cushion);
+      buffer = le-trans (q .buffer) (p .buffer);
+      time = λ n. le-trans (p .time n) (q .time n);
+    }
+
+-- Two steps are one.
+pub lighter-then : (a b c : Load) (e f : ℕ → ℕ) → Lighter a b e → Lighter b c f → Lighter a c (λ i. f (e i))
+lighter-then a b c e f p q =
+    record {
+      block = p .block ∙ q .block;
+      inside = λ i h. q .inside (e i) (p .inside i h);
+      rising = λ i j h g. q .rising (e i) (e j) (p .rising i j h g) (p .inside j g);
+      stream = λ i h.
+          light-then (a .stream i) (b .stream (e i)) (c .stream (f (e i))) (p .stream i h) (q .stream (e i) (p .inside i h));
+    }
+
+module _ (a b : Load) (e : ℕ → ℕ) (t : Lighter a b e) where
+  -- The same counts make no longer a round.
+  pub lighter-round : (m : ℕ → ℕ) → roundTime a (λ i. m (e i)) ≤ roundTime b m
+  lighter-round m =
+      le-trans (sum-grows _ (λ i. b .stream (e i) .time (m (e i))) (a .playing) (λ i h. t .stream i h .time (m (e i))))
+      (sum-part (λ j. b .stream j .time (m j)) e (a .playing) (b .playing) (t .inside) (t .rising))
+
+  pub lighter-augmenting : (m : ℕ → ℕ) → Augmenting b m → Augmenting a (λ i. m (e i))
+  lighter-augmenting m g i h =
+      rw (t .block) (lt-of-le-of-lt (mul-le-mul (t .stream i h .rate) (lighter-round m)) (g (e i) (t .inside i h)))
+
+  lighter-feasible : (m : ℕ → ℕ) → Feasible b m → Feasible a (λ i. m (e i))
+  lighter-feasible m g i h =
+      rw (t .block)
+      (let f = g (e i) (t .inside i h) in let c = t .stream i h .cushion in let d = t .stream i h .buffer in omega arith)
+
+  -- A good set of the heavier load, at the sessions that are left, is a good set of the lighter.
+  pub lighter-good : (m : ℕ → ℕ) → Good b m → Good a (λ i. m (e i))
+  lighter-good m g =
+      record {
+        counted = λ i h. g .counted (e i) (t .inside i h);
+        augmenting = lighter-augmenting m (g .augmenting);
+        feasible = lighter-feasible m (g .feasible);
+      }
+
+  pub lighter-accepted : Accepted b → Accepted a
+  lighter-accepted g = ((λ i. g .0 (e i)), lighter-good (g .0) (g .1))
+
+  -- No count grows.
+  pub lighter-counts : (p m : ℕ → ℕ) → Smallest a p → Smallest b m → (i : ℕ) → i < a .playing → p i ≤ m (e i)
+  lighter-counts p m x y i h = x .least (λ j. m (e j)) (lighter-good m (y .good)) i h
+
+  module _ (s : Sound a) where
+    -- Nor does a session's time in the round ..
+    pub lighter-times :
+        (p m : ℕ → ℕ) → Smallest a p → Smallest b m → (i : ℕ) → i < a .playing → a .stream i .time (p i) ≤ b .stream (e i) .time (m (e i))
+    lighter-times p m x y i h =
+        le-trans (bound-grows (s .laws i h) (p i) (m (e i)) (lighter-counts p m x y i h)) (t .stream i h .time (m (e i)))
+
+    -- .. or the round.
+    pub lighter-rounds : (p m : ℕ → ℕ) → Smallest a p → Smallest b m → roundTime a p ≤ roundTime b m
+    lighter-rounds p m x y =
+        le-trans (sum-grows _ (λ i. b .stream (e i) .time (m (e i))) (a .playing) (lighter-times p m x y))
+        (sum-part (λ j. b .stream j .time (m j)) e (a .playing) (b .playing) (t .inside) (t .rising))

@@ -1,0 +1,178 @@
+-- The bridge between sets of counts and round times, R1 to R5, and what the verdict's loop cites. Of the bound `rises` is cited.
+-- Assumes nothing.
+use Prim.Native.Nat.{ℕ, _+_, _*_, _/_, _%_, _≤_, _<_}
+use mathlib.Core.Path.{_≡_, sym, _∙_, ap}
+use mathlib.Core.Logic.{_↔_}
+use native.Mathlib.Omega.{arith}
+use native.Mathlib.Nat.{le-refl, le-of-eq, le-trans, le-antisymm, lt-of-le-of-lt, mul-add, mul-left-comm, mul-le-mul, mul-le-mul-left, mul-le-mul-right, mul-add-div, div-add-mod, div-lt-iff-lt-mul}
+use native.Mathlib.Decide.{decLe}
+use Rattle.theory.specs.Counts.{Load, Sound, unit, roundTime, Augmenting, Feasible, Good, Accepted, Smallest}
+use Rattle.theory.specs.Rounds.{need, asked, next, Sustains, Fits, NotPast, LeastTime}
+use Rattle.theory.proofs.Sum.{sum-none, sum-grows, sum-same, sum-capped}
+use Rattle.theory.proofs.Search.{least-of}
+use Rattle.drive.proofs.Bound.{bound-grows}
+
+-- N1: m D > R t exactly if m is at least need t.
+pub need-enough : (r D t m : ℕ) → 1 ≤ D → need r D t ≤ m → r * t < m * D
+unfolding need
+need-enough r D t m h g = div-lt-iff-lt-mul h .0 (omega arith)
+
+pub need-least : (r D t m : ℕ) → 1 ≤ D → r * t < m * D → need r D t ≤ m
+unfolding need
+need-least r D t m h g = let d : r * t / D < m = div-lt-iff-lt-mul h .1 g in omega arith
+
+pub need-exactly : (r D t m : ℕ) → 1 ≤ D → (need r D t ≤ m) ↔ (r * t < m * D)
+need-exactly r D t m h = (need-enough r D t m h, need-least r D t m h)
+
+-- N2: what the code computes, so that R x t is never formed.
+pub need-split : (r D t : ℕ) → 1 ≤ D → need r D t ≡ r * (t / D) + r * (t % D) / D + 1
+unfolding need
+need-split r D t h =
+    ap (λ (x : ℕ). r * x / D + 1) (sym (div-add-mod t D))
+    ∙ ap (λ (x : ℕ). x / D + 1) (mul-add r (D * (t / D)) (t % D) ∙ ap (λ (x : ℕ). x + r * (t % D)) (mul-left-comm r D (t / D)))
+    ∙ ap (λ (x : ℕ). x + 1) (mul-add-div h (r * (t / D)) (r * (t % D)))
+
+-- need grows with the rate and with the time.
+pub need-grows : (D : ℕ) {r s t x : ℕ} → 1 ≤ D → r ≤ s → t ≤ x → need r D t ≤ need s D x
+need-grows D {r} {s} {t} {x} h p q =
+    need-least r D t (need s D x) h (lt-of-le-of-lt (mul-le-mul p q) (need-enough s D x (need s D x) h (le-refl (need s D x))))
+
+pub need-some : (r D t : ℕ) → 1 ≤ need r D t
+unfolding need
+need-some r D t = omega arith
+
+-- What fits leaves room for less.
+pub feasible-below : (l : Load) {m o : ℕ → ℕ} → ((i : ℕ) → i < l .playing → m i ≤ o i) → Feasible l o → Feasible l m
+feasible-below l {m} {o} h f i b =
+    let p : (m i + 1) * l .block ≤ (o i + 1) * l .block = mul-le-mul-right (l .block) (let q = h i b in omega arith) in
+    let g = f i b in
+    omega arith
+
+-- A count that fits a buffer is below 2,097,152.
+pub count-capped : (m A Y B : ℕ) → 512 ≤ A → B ≤ 1073741824 → (m + 1) * A + Y ≤ B → m < 2097152
+count-capped m A Y B h g f =
+    let p : (m + 1) * 512 ≤ (m + 1) * A = mul-le-mul-left (m + 1) h in omega arith
+
+-- A round of operations of at most k µs each.
+pub round-capped : (l : Load) (m : ℕ → ℕ) (k : ℕ) → ((i : ℕ) → i < l .playing → l .stream i .time (m i) ≤ k) → roundTime l m ≤ l .playing * k
+round-capped l m k h = sum-capped (λ i. l .stream i .time (m i)) k (l .playing) h
+
+module _ (l : Load) (s : Sound l) where
+  pub unit-some : 1 ≤ unit l
+  unit-some = let h = s .block in omega arith
+
+  -- No smaller counts make no shorter round.
+  pub round-grows : (m o : ℕ → ℕ) → ((i : ℕ) → i < l .playing → m i ≤ o i) → roundTime l m ≤ roundTime l o
+  round-grows m o h = sum-grows _ _ (l .playing) (λ i b. bound-grows (s .laws i b) (m i) (o i) (h i b))
+
+  pub next-grows : (t x : ℕ) → t ≤ x → next l t ≤ next l x
+  next-grows t x h = round-grows (asked l t) (asked l x) (λ i b. need-grows (unit l) unit-some (le-refl (l .stream i .rate)) h)
+
+  -- R1: the round of an augmenting set asks for that set at most, and so sustains itself.
+  pub round-asks : (m : ℕ → ℕ) → Augmenting l m → (i : ℕ) → i < l .playing → asked l (roundTime l m) i ≤ m i
+  round-asks m a i b = need-least (l .stream i .rate) (unit l) (roundTime l m) (m i) unit-some (a i b)
+
+  pub round-sustains : (m : ℕ → ℕ) → Augmenting l m → Sustains l (roundTime l m)
+  round-sustains m a = round-grows (asked l (roundTime l m)) m (round-asks m a)
+
+  -- R2: what a time that sustains asks for is augmenting, and no longer than that time.
+  pub asked-augmenting : (t : ℕ) → Sustains l t → Augmenting l (asked l t)
+  asked-augmenting t h i b =
+      lt-of-le-of-lt (mul-le-mul-left (l .stream i .rate) h)
+      (need-enough (l .stream i .rate) (unit l) t (asked l t i) unit-some (le-refl (asked l t i)))
+
+  pub asked-good : (t : ℕ) → Sustains l t → Fits l t → Good l (asked l t)
+  asked-good t h f =
+      record {
+        counted = λ i b. need-some (l .stream i .rate) (unit l) t;
+        augmenting = asked-augmenting t h;
+        feasible = f;
+      }
+
+  -- R3: accepted exactly if some time sustains and fits.
+  pub accepted-has-time : Accepted l → (t : ℕ) × Sustains l t × Fits l t
+  accepted-has-time a =
+      let m = a .0 in
+      let g = a .1 in
+      (roundTime l m, round-sustains m (g .augmenting), feasible-below l (round-asks m (g .augmenting)) (g .feasible))
+
+  pub time-accepts : (t : ℕ) → Sustains l t → Fits l t → Accepted l
+  time-accepts t h f = (asked l t, asked-good t h f)
+
+  -- Where any time sustains there is a least.
+  pub least-time : (x : ℕ) → Sustains l x → (t : ℕ) × LeastTime l t
+  least-time x h =
+      let r = least-of (Sustains l) (λ t. decLe (next l t) t) x h in
+      (r .0, record { sustains = r .1; least = r .2 })
+
+  -- R4: what the least time asks for is augmenting, is at most every augmenting set, and its round takes that time exactly.
+  pub least-augmenting : (t : ℕ) → LeastTime l t → Augmenting l (asked l t)
+  least-augmenting t h = asked-augmenting t (h .sustains)
+
+  pub least-below :
+      (t : ℕ) → NotPast l t → (m : ℕ → ℕ) → Augmenting l m → (i : ℕ) → i < l .playing → asked l t i ≤ m i
+  least-below t h m a i b =
+      le-trans (need-grows (unit l) unit-some (le-refl (l .stream i .rate)) (h (roundTime l m) (round-sustains m a))) (round-asks m a i b)
+
+  pub least-round : (t : ℕ) → LeastTime l t → roundTime l (asked l t) ≡ t
+  least-round t h = le-antisymm (h .sustains) (h .least (next l t) (round-sustains (asked l t) (least-augmenting t h)))
+
+  -- R5: accepted exactly if the least time exists and fits, and what it asks for is the answer.
+  pub least-smallest : (t : ℕ) → LeastTime l t → Fits l t → Smallest l (asked l t)
+  least-smallest t h f =
+      record { good = asked-good t (h .sustains) f; least = λ m g. least-below t (h .least) m (g .augmenting) }
+
+  pub accepted-has-least : Accepted l → (t : ℕ) × LeastTime l t × Fits l t
+  accepted-has-least a =
+      let x = accepted-has-time a in
+      let r = least-time (x .0) (x .1) in
+      (r .0, r .1, feasible-below l (λ i b. need-grows (unit l) unit-some (le-refl (l .stream i .rate)) (r .1 .least (x .0) (x .1))) (x .2))
+
+  -- The loop: t starts at 0 and becomes next t until it grows no more. It is never above a time that sustains.
+  pub start-below : NotPast l 0
+  start-below x h = omega arith
+
+  pub next-below : (t : ℕ) → NotPast l t → NotPast l (next l t)
+  next-below t below x h = le-trans (next-grows t x (below x h)) h
+
+  pub still-least : (t : ℕ) → NotPast l t → next l t ≤ t → LeastTime l t
+  still-least t below h = record { sustains = h; least = below }
+
+  -- Where it asks a session for a count that does not fit, no set is good.
+  pub unfit-refuses :
+      (t : ℕ) → NotPast l t → (i : ℕ) → i < l .playing →
+      l .stream i .buffer < (asked l t i + 1) * l .block + l .stream i .cushion → Accepted l → ⊥
+  unfit-refuses t below i b u a =
+      let f = feasible-below l (least-below t below (a .0) (a .1 .augmenting)) (a .1 .feasible) i b in omega arith
+
+-- An empty show's least time is 0.
+pub empty-least : (l : Load) → l .playing ≡ 0 → LeastTime l 0
+empty-least l e = record { sustains = rw e (le-of-eq (sum-none (λ i. l .stream i .time (asked l 0 i)))); least = λ x h. omega arith }
+
+-- So it is accepted.
+pub empty-accepted : (l : Load) → Sound l → l .playing ≡ 0 → Accepted l
+empty-accepted l s e = time-accepts l s 0 (empty-least l e .sustains) (λ i b. absurd (let f : ⊥ = omega arith in f))
+
+-- There is one smallest set.
+pub smallest-once : (l : Load) (m o : ℕ → ℕ) → Smallest l m → Smallest l o → (i : ℕ) → i < l .playing → m i ≡ o i
+smallest-once l m o p q i b = le-antisymm (p .least o (q .good) i b) (q .least m (p .good) i b)
+
+-- There is one least time.
+pub least-once : (l : Load) (t x : ℕ) → LeastTime l t → LeastTime l x → t ≡ x
+least-once l t x p q = le-antisymm (p .least x (q .sustains)) (q .least t (p .sustains))
+
+-- What holds of a set holds of one that agrees with it at every session: the code's array of counts.
+pub round-same : (l : Load) (m o : ℕ → ℕ) → ((i : ℕ) → i < l .playing → m i ≡ o i) → roundTime l m ≡ roundTime l o
+round-same l m o h = sum-same _ _ (l .playing) (λ i b. ap (l .stream i .time) (h i b))
+
+pub good-same : (l : Load) (m o : ℕ → ℕ) → ((i : ℕ) → i < l .playing → m i ≡ o i) → Good l m → Good l o
+good-same l m o h g =
+    record {
+      counted = λ i b. rw (← h i b) (g .counted i b);
+      augmenting = λ i b. rw (← h i b, ← round-same l m o h) (g .augmenting i b);
+      feasible = λ i b. rw (← h i b) (g .feasible i b);
+    }
+
+pub smallest-same : (l : Load) (m o : ℕ → ℕ) → ((i : ℕ) → i < l .playing → m i ≡ o i) → Smallest l m → Smallest l o
+smallest-same l m o h s =
+    record { good = good-same l m o h (s .good); least = λ u g i b. rw (← h i b) (s .least u g i b) }

@@ -1,0 +1,5 @@
+pub mod Sum
+pub mod Counts
+pub mod Rounds
+pub mod Lighter
+pub mod Shows
