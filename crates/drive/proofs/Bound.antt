@@ -84,7 +84,10 @@ pub parts-capped : (N k : ℕ) (c : Cost) → Limited c → (n : ℕ) → n ≤ 
 parts-capped N k c l n h =
     record { blocks = mul-le-mul h (l .each); crossed = mul-le-mul (le-trans (edges-capped N n) h) (l .cross) }
 
+pub worst-below : (N k : ℕ) (c : Cost) → Limited c → (n : ℕ) → n ≤ k → worstTime N c n ≤ 5000000 + k * 4000000
+unfolding worstTime
+worst-below N k c l n h = omega (arith, parts-capped N k c l n h, l .fixed)
+
 -- B6: within the limits no operation that fits a buffer takes 10,000,000 seconds.
 pub worst-capped : (N : ℕ) (c : Cost) → Limited c → (n : ℕ) → n ≤ countMost → worstTime N c n < worstMost
-unfolding worstTime
-worst-capped N c l n h = omega (arith, parts-capped N countMost c l n h, l .fixed)
+worst-capped N c l n h = let g = worst-below N countMost c l n h in omega arith

@@ -1,0 +1,4 @@
+pub mod Spans
+pub mod Turns
+pub mod Sets
+pub mod Once

@@ -1,0 +1,182 @@
+-- Sets as rows: the counts that a time asks for, the times of given counts, and whether those hold. Assumes nothing.
+use Prim.Native.Nat.{ℕ, _+_, _*_, _≤_, _<_}
+use mathlib.Core.Path.{_≡_, sym, _∙_, ap, subst}
+use mathlib.Core.List.{List}
+use native.Mathlib.Omega.{arith}
+use lib.ListN.{getD, set}
+use borrow.Author.Count.{below-more}
+use Rattle.drive.specs.declared.Show.{Show}
+use Rattle.drive.specs.declared.cost.Cost.{Cost}
+use Rattle.drive.specs.Limits.{ShowWithin, sessionAt}
+use Rattle.drive.specs.Bound.{Limited, worstTime}
+use Rattle.drive.specs.Lists.{listed, padded}
+use Rattle.drive.specs.Worst.{costOf, costsOf, noCost}
+use Rattle.drive.proofs.Costs.{cost-limited, costs-at}
+use Rattle.drive.proofs.Lists.{filled-none, filled-more, filled-at, listed-same}
+use Rattle.theory.specs.Sum.{sumTo}
+use Rattle.theory.specs.Counts.{Load, unit, roundTime, Good}
+use Rattle.theory.specs.Rounds.{asked, Fits}
+use Rattle.theory.specs.Shows.{loadOf}
+use Rattle.theory.proofs.Sum.{sum-none, sum-more}
+use Rattle.theory.proofs.Rounds.{count-capped, need-enough, need-least, unit-some, round-same}
+use Rattle.theory.proofs.Shows.{show-sound}
+use Rattle.verdict.specs.Answers.{row, timesOf, setOf, TrialIs, holds, fails}
+use Rattle.verdict.specs.Steps.{spanOf, givenMost, Short, askedOf, timeMost, Held, Holds, timedOf}
+use Rattle.verdict.specs.declared.Answer.{Answer}
+use Rattle.verdict.specs.declared.Answer.the-variants as answer
+use Rattle.verdict.specs.declared.Trial.{Trial}
+use Rattle.verdict.specs.declared.given.Timed.{Timed}
+use Rattle.verdict.specs.declared.round.Span.{Span}
+use Rattle.verdict.proofs.Spans.{span-asked}
+
+-- ---- the counts that a time asks for
+
+-- What fits is of 32 bits.
+pub asked-few : (s : Show) → ShowWithin s → (t : ℕ) → Fits (loadOf s) t → (i : ℕ) → i < s .playing → asked (loadOf s) t i < 2097152
+asked-few s w t f i l =
+    count-capped _ (s .drive .block) _ (sessionAt s i .buffer) (w .drive .block .low) (w .sessions i l .buffer .high) (f i l)
+
+-- A row of numbers up to session i.
+pub record Filled (s : Show) (f : ℕ → ℕ) (out : List ℕ) (i : ℕ) : Type 0 where
+  pub inside : i ≤ s .playing
+  pub filled : out ≡ padded 16 0 (listed f i)
+
+module _ (s : Show) (f : ℕ → ℕ) where
+  pub row-begun : (out : List ℕ) → out ≡ padded 16 0 (listed f 0) → Filled s f out 0
+  row-begun out e = record { inside = omega arith; filled = e }
+
+  pub row-body :
+      (out : List ℕ) (i x : ℕ) → ShowWithin s → Filled s f out i → i < s .playing → x ≡ f i → Filled s f (set out i x) (i + 1)
+  row-body out i x w h l e =
+      record {
+        inside = omega arith;
+        filled = rw (h .filled, e) (filled-more 16 0 f i (let a = w .counts .sessions in omega arith));
+      }
+
+  pub row-ended : (out : List ℕ) (i : ℕ) → Filled s f out i → s .playing ≤ i → out ≡ row (loadOf s) f
+  row-ended out i h l = h .filled ∙ ap (λ (n : ℕ). padded 16 0 (listed f n)) (let a = h .inside in omega arith)
+
+-- ---- the times of given counts
+
+pub record TimedTo (s : Show) (f : ℕ → ℕ) (sum : ℕ) (out : List ℕ) (i : ℕ) : Type 0 where
+  pub times : Filled s f out i
+  pub adds : sum ≡ sumTo f i
+  pub small : sum ≤ i * timeMost
+
+pub times-begun : (s : Show) (f : ℕ → ℕ) (out : List ℕ) → out ≡ padded 16 0 (listed f 0) → TimedTo s f 0 out 0
+times-begun s f out e = record { times = row-begun s f out e; adds = sym (sum-none f); small = omega arith }
+
+pub times-body :
+    (s : Show) (f : ℕ → ℕ) (sum : ℕ) (out : List ℕ) (i u : ℕ) → ShowWithin s → TimedTo s f sum out i → i < s .playing →
+    u ≡ f i → u ≤ timeMost → TimedTo s f (sum + u) (set out i u) (i + 1)
+times-body s f sum out i u w h l e g =
+    record {
+      times = row-body s f out i u w (h .times) l e;
+      adds = (let a = h .adds in omega (arith, sum-more f i));
+      small = (let a = h .small in omega arith);
+    }
+
+module _ (s : Show) (w : ShowWithin s) (costs : List Cost) (e : costs ≡ costsOf s) (i : ℕ) (l : i < s .playing) where
+  cost-same : getD costs i noCost ≡ costOf s i
+  cost-same = rw e (costs-at s (w .counts .sessions) i l)
+
+  pub cost-of-limited : Limited (getD costs i noCost)
+  cost-of-limited = rw cost-same (cost-limited s w i l)
+
+  pub time-same : (n : ℕ) → worstTime (s .drive .cylinder) (getD costs i noCost) n ≡ loadOf s .stream i .time n
+  time-same n = ap (λ (c : Cost). worstTime (s .drive .cylinder) c n) cost-same
+
+pub times-ended :
+    (s : Show) (f : ℕ → ℕ) (sum : ℕ) (out : List ℕ) (i : ℕ) → ShowWithin s → TimedTo s f sum out i → s .playing ≤ i →
+    (sum ≡ sumTo f (s .playing)) × (out ≡ row (loadOf s) f) × (sum < givenMost)
+times-ended s f sum out i w h l =
+    let a = h .times .inside in
+    let g = h .small in
+    let n = w .counts .sessions in
+    (h .adds ∙ ap (sumTo f) (omega arith), row-ended s f out i (h .times) l, omega arith)
+
+-- ---- whether given counts hold
+
+pub record HeldTo (s : Show) (p : Span) (m : ℕ → ℕ) (i : ℕ) : Type 0 where
+  pub inside : i ≤ s .playing
+  pub held : (k : ℕ) → k < i → Held (s .drive .block) (sessionAt s k) p (m k)
+
+module _ (s : Show) (p : Span) (m : ℕ → ℕ) where
+  pub held-begun : HeldTo s p m 0
+  held-begun = record { inside = omega arith; held = λ k h. absurd (let f : ⊥ = omega arith in f) }
+
+  pub held-body : (i : ℕ) → HeldTo s p m i → i < s .playing → Held (s .drive .block) (sessionAt s i) p (m i) → HeldTo s p m (i + 1)
+  held-body i h l g = record { inside = omega arith; held = below-more _ _ (h .held) g }
+
+  module _ (t : ℕ) (e : p ≡ spanOf (unit (loadOf s)) t) where
+    pub held-ended : (i : ℕ) → HeldTo s p m i → s .playing ≤ i → Holds (loadOf s) t m
+    held-ended i h l =
+        let at : (k : ℕ) → k < s .playing → Held (s .drive .block) (sessionAt s k) p (m k) =
+        (λ k g. h .held k (let a = h .inside in omega arith)) in
+        record {
+          some = λ k g. at k g .some;
+          room = λ k g. at k g .room;
+          ahead = λ k g. rw (sym (span-asked (sessionAt s k .rate) (unit (loadOf s)) t p e)) (at k g .ahead);
+        }
+
+    pub held-broken : (i : ℕ) → i < s .playing → (Held (s .drive .block) (sessionAt s i) p (m i) → ⊥) → Holds (loadOf s) t m → ⊥
+    held-broken i l none h =
+        none
+        (record {
+          some = h .some i l;
+          room = h .room i l;
+          ahead = rw (span-asked (sessionAt s i .rate) (unit (loadOf s)) t p e) (h .ahead i l);
+        })
+
+-- Counts that hold over their own round are a good set, and the other way round: N1.
+module _ (s : Show) (w : ShowWithin s) (m : ℕ → ℕ) where
+  pub holds-good : Holds (loadOf s) (roundTime (loadOf s) m) m → Good (loadOf s) m
+  holds-good h =
+      record {
+        counted = h .some;
+        augmenting = λ i l. need-enough _ _ _ _ (unit-some (loadOf s) (show-sound s w)) (h .ahead i l);
+        feasible = h .room;
+      }
+
+  pub good-holds : Good (loadOf s) m → Holds (loadOf s) (roundTime (loadOf s) m) m
+  good-holds g =
+      record {
+        some = g .counted;
+        room = g .feasible;
+        ahead = λ i l. need-least _ _ _ _ (unit-some (loadOf s) (show-sound s w)) (g .augmenting i l);
+      }
+
+-- What is answered of given counts, by their times.
+module _ (s : Show) (w : ShowWithin s) (m : List ℕ) (x : Timed) (e : x ≡ timedOf (loadOf s) (setOf m)) where
+  abbrev answered : Answer → Timed → Trial
+  answered a y = record { answer = a; round = y .round; times = y .times }
+
+  abbrev Over : Timed → Type 0
+  Over y = Holds (loadOf s) (y .round) (setOf m)
+
+  pub trial-holds : Over x → TrialIs s m (answered answer.Holds x)
+  trial-holds h =
+      subst (λ (y : Timed). TrialIs s m (answered answer.Holds y)) (sym e) (holds w (holds-good s w (setOf m) (subst Over e h)))
+
+  pub trial-fails : (Over x → ⊥) → TrialIs s m (answered answer.Fails x)
+  trial-fails none =
+      subst (λ (y : Timed). TrialIs s m (answered answer.Fails y)) (sym e)
+      (fails w (λ g. none (subst Over (sym e) (good-holds s w (setOf m) g))))
+
+-- ---- rows as sets
+
+-- A row, read as a set, is what it was filled with.
+pub set-of-row : (l : Load) (f : ℕ → ℕ) (i : ℕ) → i < l .playing → setOf (row l f) i ≡ f i
+set-of-row l f i h = filled-at 16 0 f (l .playing) i 0 h
+
+pub times-same : (l : Load) (m o : ℕ → ℕ) → ((i : ℕ) → i < l .playing → m i ≡ o i) → timesOf l m ≡ timesOf l o
+times-same l m o h = ap (padded 16 0) (listed-same _ _ (l .playing) (λ i g. ap (l .stream i .time) (h i g)))
+
+-- The times of a row of counts are those of what it was filled with.
+pub row-timed : (l : Load) (m : ℕ → ℕ) → timedOf l (setOf (row l m)) ≡ timedOf l m
+row-timed l m =
+    λ i.
+    record {
+      round = round-same l (setOf (row l m)) m (set-of-row l m) i;
+      times = times-same l (setOf (row l m)) m (set-of-row l m) i;
+    }

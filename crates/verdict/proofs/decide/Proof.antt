@@ -1,0 +1,81 @@
+-- `decide` refuses a show outside the limits, and otherwise answers by the least time that sustains. Assumes nothing.
+use mathlib.Core.Path.{sym, _∙_, subst}
+use borrow.Author.Needs.{needs}
+use Rattle.drive.specs.Limits.{ShowWithin}
+use Rattle.drive.proofs.Shows.{check-within}
+use Rattle.theory.proofs.Rounds.{least-smallest}
+use Rattle.theory.proofs.Shows.{show-sound}
+use Rattle.verdict.specs.Answers.{DecisionIs, accepted, no-set, outside}
+use Rattle.verdict.specs.Steps.{Settled, SettledAs}
+use Rattle.verdict.proofs.decide.Statement.{statement}
+use Rattle.verdict.proofs.decide.Tie as tie
+
+check-requires : tie.Need-check-requires
+check-requires c κs = search needs
+
+enum-known-check : tie.Need-enum-known-check
+enum-known-check c = search needs
+
+refused-requires : tie.Need-refused-requires
+refused-requires c κs = search needs
+
+returns : tie.Need-returns
+returns c =
+    subst (DecisionIs _) (sym (c .refused .ensures)) (outside _ (sym (c .before .before .before .before .check .ensures) ∙ c .before .before .check2 .given .1))
+
+enum-told : tie.Need-enum-told
+enum-told c = search needs
+
+costs-requires : tie.Need-costs-requires
+costs-requires c κs = search needs
+
+within : (c : tie.After-enum-told) → ShowWithin (c .before .before .before .args .show)
+within c = check-within _ (sym (c .before .before .check .ensures) ∙ c .enum-told .given .1)
+
+settle-requires : tie.Need-settle-requires
+settle-requires c κs = (within (c .before), c .costs .ensures)
+
+enum-known-settled : tie.Need-enum-known-settled
+enum-known-settled c = search needs
+
+enum-told-2 : tie.Need-enum-told-2
+enum-told-2 c = search needs
+
+refused-requires-2 : tie.Need-refused-requires-2
+refused-requires-2 c κs = search needs
+
+returns-2 : tie.Need-returns-2
+returns-2 c =
+    subst (DecisionIs _) (sym (c .refused2 .ensures))
+    (no-set (within (c .before .before .before .before .before)) (subst (SettledAs _) (c .before .enum-told2 .given .1) (c .before .before .before .settle .ensures)))
+
+settled-at : (c : tie.After-known-told2) → Settled (c .before .before .before .before .before .before .before .before .args .show) (c .before .settled .given .0 .0)
+settled-at c = subst (SettledAs _) (c .before .settled .given .1) (c .before .before .before .settle .ensures)
+
+accepted-requires : tie.Need-accepted-requires
+accepted-requires c κs = (within (c .before .before .before .before .before), (c .before .before .before .before .costs .ensures, settled-at c))
+
+returns-3 : tie.Need-returns-3
+returns-3 c =
+    let w = within (c .before .before .before .before .before .before) in
+    let h = settled-at (c .before) in
+    subst (DecisionIs _) (sym (c .accepted .ensures))
+    (accepted _ w (least-smallest _ (show-sound _ w) _ (h .least) (h .fits)))
+
+pub decide-spec : {M : Type 1} → statement M
+decide-spec =
+    tie.close
+    (tie.spec
+    check-requires
+    enum-known-check
+    refused-requires
+    returns
+    enum-told
+    costs-requires
+    settle-requires
+    enum-known-settled
+    enum-told-2
+    refused-requires-2
+    returns-2
+    accepted-requires
+    returns-3)

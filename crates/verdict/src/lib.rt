@@ -1,0 +1,121 @@
+// Yes or no: whether a show is accepted, with the smallest set of counts, and whether given counts are such a set.
+pub mod given;
+pub mod round;
+
+ghost use mathlib.Core.Path.{_≡_};
+ghost use Rattle.drive.specs.Limits.{ShowWithin};
+ghost use Rattle.drive.specs.Worst.{costsOf};
+ghost use Rattle.theory.specs.Rounds.{asked};
+ghost use Rattle.theory.specs.Shows.{loadOf};
+ghost use Rattle.verdict.specs.Answers.{DecisionIs, TrialIs, acceptedWith, refusedFor};
+ghost use Rattle.verdict.specs.Steps.{Settled};
+use crate::given::holds;
+use crate::given::times_of;
+use crate::round::Turn;
+use crate::round::counts;
+use crate::round::settle;
+use drive::Show;
+use drive::cost::Cost;
+use drive::refusal::Check;
+use drive::refusal::Refusal;
+
+pub enum Verdict {
+    Accepted,
+    Refused(Refusal),
+}
+
+// L, and each session's count and the worst time for it; zeros above the session count, and everywhere if refused.
+pub struct Decision {
+    pub verdict: Verdict,
+    pub round: u64,
+    pub counts: [u32; 16],
+    pub times: [u64; 16],
+}
+
+// Whether given counts are a feasible workahead-augmenting set.
+pub enum Answer {
+    Holds,
+    Fails,
+    Refused(Refusal),
+}
+
+// L of given counts and the worst time of each; zeros above the session count, and everywhere if refused.
+pub struct Trial {
+    pub answer: Answer,
+    pub round: u64,
+    pub times: [u64; 16],
+}
+
+// Whether a show is accepted: 2, 5, 6, 7, then 8.
+pub fn decide(show: Show) -> Decision
+    ensures { λ r. ⌜ DecisionIs show r ⌝ }
+{
+    let check = show.check();
+    if let Check::Refused(why) = check {
+        return refused(why);
+    }
+    let costs = show.costs();
+    let settled = settle(show, costs);
+    let Turn::Takes(t) = settled else {
+        return refused(Refusal::NoSet);
+    };
+    accepted(show, costs, t)
+}
+
+// What a round of t µs asks for, and how long that takes.
+fn accepted(show: Show, costs: [Cost; 16], t: u64) -> Decision
+    requires { ⌜ ShowWithin show ⌝ }
+    requires { ⌜ (costs ≡ costsOf show) × Settled show t ⌝ }
+    ensures { λ r. ⌜ r ≡ acceptedWith (loadOf show) (asked (loadOf show) t) ⌝ }
+{
+    let counts = counts(show, t);
+    let timed = times_of(show, costs, counts);
+    let times = timed.times;
+    Decision {
+        verdict: Verdict::Accepted,
+        round: timed.round,
+        counts,
+        times,
+    }
+}
+
+fn refused(why: Refusal) -> Decision
+    ensures { λ r. ⌜ r ≡ refusedFor why ⌝ }
+{
+    Decision {
+        verdict: Verdict::Refused(why),
+        round: 0,
+        counts: [0; 16],
+        times: [0; 16],
+    }
+}
+
+// Given counts as a set of a show: 2, 5, 6, 7, then whether they hold; their times in either case.
+pub fn tried(show: Show, counts: [u32; 16]) -> Trial
+    ensures { λ r. ⌜ TrialIs show counts r ⌝ }
+{
+    let check = show.check();
+    if let Check::Refused(why) = check {
+        return Trial {
+            answer: Answer::Refused(why),
+            round: 0,
+            times: [0; 16],
+        };
+    }
+    let costs = show.costs();
+    let timed = times_of(show, costs, counts);
+    let times = timed.times;
+    let round = timed.round;
+    if !holds(show, counts, round) {
+        return Trial {
+            answer: Answer::Fails,
+            round,
+            times,
+        };
+    }
+    Trial {
+        answer: Answer::Holds,
+        round,
+        times,
+    }
+}
