@@ -77,7 +77,7 @@ module _ {A : Type 0} where
     unfolding padded
     filled-length n h = rw (length-append, length-replicate, listed-length f n) (omega arith)
 
-  listed-at : (f : ℕ → A) (n i : ℕ) (d : A) → i < n → getD (listed f n) i d ≡ f i
+  pub listed-at : (f : ℕ → A) (n i : ℕ) (d : A) → i < n → getD (listed f n) i d ≡ f i
   unfolding listed
   listed-at f zero i d h = absurd (let b : ⊥ = omega arith in b)
   listed-at f (suc n) i d h = from (decLt i n) (listed-at f n i d)

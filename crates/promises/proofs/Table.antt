@@ -1,15 +1,177 @@
--- The worked numbers hold: each is computed. Assumes nothing.
-use mathlib.Core.Path.{refl}
+-- The worked numbers hold: each is computed, but for p6, which is the law of overload. Assumes nothing.
+use Prim.Native.Nat.{ℕ, zero, suc, _+_, _*_, _≤_, _<_}
+use mathlib.Core.Path.{_≡_, refl, _∙_, subst}
+use mathlib.Core.Bool.{Bool, true, false}
+use mathlib.Core.List.{List, [], _∷_, _++_}
+use native.Mathlib.Omega.{arith}
+use native.Mathlib.Nat.{le-refl}
 use native.Mathlib.Decide.{decLt}
+use lib.ListN.{replicate, List·getD-append}
+use lib.Seq.{getD-take}
+use lib.Dec.{T, leb, ltb, leb→le, ltb→lt}
+use Rattle.drive.specs.declared.Session.{Session}
+use Rattle.drive.specs.declared.Show.{Show}
+use Rattle.drive.specs.declared.refusal.Check.the-variants.{Within}
+use Rattle.drive.specs.Limits.{Between, ShowWithin, LaidWithin, sessionAt, noSession}
 use Rattle.drive.specs.Decisions.{counts?, drive?, layout?, session?}
 use Rattle.drive.specs.Checks.{showCheck, firstBelow}
+use Rattle.drive.specs.Lists.{listed, padded}
 use Rattle.drive.specs.Bound.{worstTime, edges, ceil}
 use Rattle.drive.specs.Worst.{costOf, worstOf}
-use Rattle.promises.specs.Numbers.{P1, Table}
+use Rattle.drive.proofs.Lists.{listed-length, listed-at}
+use Rattle.drive.proofs.Shows.{check-within}
+use Rattle.theory.specs.Sum.{sumTo}
+use Rattle.theory.specs.Counts.{unit, roundTime, needed}
+use Rattle.theory.specs.Rounds.{need, asked, next, turns, NotPast}
+use Rattle.theory.specs.Shows.{loadOf}
+use Rattle.theory.proofs.Rounds.{start-below, turns-below, still-least, least-smallest, unfit-refuses}
+use Rattle.theory.proofs.Overload.{overload-refuses}
+use Rattle.theory.proofs.Shows.{show-sound}
+use Rattle.verdict.specs.declared.Answer.the-variants.{Fails}
+use Rattle.verdict.specs.Answers.{DecisionIs, accepted, no-set, TrialIs, fails, acceptedWith, setOf, timedAs}
+use Rattle.promises.specs.Numbers.{P1, P2, P3, P4, P5, P6, P7, Table, X, Z, far, buffered, clip, slower, showOf, places, yes-with, no-set-found}
+
+-- ---- tests that compute
+
+unfoldable both : Bool → Bool → Bool
+both true b = b
+both false b = false
+
+both-yes : (a b : Bool) → T (both a b) → T a × T b
+unfolding both
+both-yes true b t = (tt, t)
+both-yes false b t = absurd t
+
+-- the test passes at each number below n
+unfoldable all : (ℕ → Bool) → ℕ → Bool
+all f zero = true
+all f (suc n) = both (f n) (all f n)
+
+all-at : (f : ℕ → Bool) (n : ℕ) → T (all f n) → (i : ℕ) → i < n → T (f i)
+unfolding all
+all-at f zero t i h = absurd (let z : ⊥ = omega arith in z)
+all-at f (suc n) t i h = from (decLt i n) (all-at f n (both-yes (f n) (all f n) t .1) i)
+  where
+    from : Dec (i < n) → (i < n → T (f i)) → T (f i)
+    from (yes g) there = there g
+    from (no g) there = subst (λ (k : ℕ). T (f k)) (omega arith) (both-yes (f n) (all f n) t .0)
+
+module _ (s : Show) (e : showCheck s ≡ Within) (k x : ℕ) (turned : turns (loadOf s) k 0 ≡ x) where
+  not-past : NotPast (loadOf s) x
+  not-past =
+      let sound = show-sound s (check-within s e) in
+      subst (NotPast (loadOf s)) turned (turns-below (loadOf s) sound k 0 (start-below (loadOf s) sound))
+
+  -- After k turns the round takes x, which is no longer, and what it asks for fits.
+  settles :
+      T (leb (next (loadOf s) x) x) → T (all (λ i. leb (needed (loadOf s) i (asked (loadOf s) x i)) (loadOf s .stream i .buffer)) (s .playing)) →
+      DecisionIs s (acceptedWith (loadOf s) (asked (loadOf s) x))
+  settles still fits =
+      let w = check-within s e in
+      let sound = show-sound s w in
+      accepted (asked (loadOf s) x) w
+      (least-smallest (loadOf s) sound x (still-least (loadOf s) sound x not-past (leb→le _ _ still)) (λ i l. leb→le _ _ (all-at _ (s .playing) fits i l)))
+
+  -- After k turns the count of session i does not fit.
+  spills : (i : ℕ) → T (ltb i (s .playing)) → T (ltb (loadOf s .stream i .buffer) (needed (loadOf s) i (asked (loadOf s) x i))) → DecisionIs s no-set-found
+  spills i inside over =
+      let w = check-within s e in
+      no-set w (unfit-refuses (loadOf s) (show-sound s w) x not-past i (ltb→lt _ _ inside) (ltb→lt _ _ over))
+
+-- ---- the table
 
 p1 : P1
 unfolding worstOf showCheck firstBelow counts? drive? layout? session? decLt costOf worstTime edges ceil
 p1 = record { one = refl; ten = refl; eleven = refl }
 
+empty : DecisionIs (showOf X []) (yes-with 0 [] [])
+unfolding showCheck firstBelow counts? drive? layout? session? costOf worstTime edges ceil turns sumTo need all both listed padded
+empty = settles (showOf X []) refl 0 0 refl tt tt
+
+p2 : P2
+unfolding showCheck firstBelow counts? drive? layout? session? costOf worstTime edges ceil turns sumTo need all both listed padded
+p2 =
+    record {
+      ample = settles (showOf X (clip ∷ [])) refl 1 42000 refl tt tt;
+      enough = settles (showOf X (buffered 102401 ∷ [])) refl 1 42000 refl tt tt;
+      short = spills (showOf X (buffered 102400 ∷ [])) refl 0 0 refl 0 tt tt;
+    }
+
+-- Counts whose session 0 is not ahead of its rate.
+behind :
+    (s : Show) → showCheck s ≡ Within → (m : List ℕ) → T (ltb 0 (s .playing)) →
+    T (leb (setOf m 0 * unit (loadOf s)) (loadOf s .stream 0 .rate * roundTime (loadOf s) (setOf m))) →
+    TrialIs s m (timedAs Fails (loadOf s) (setOf m))
+behind s e m some late =
+    fails (check-within s e)
+    (λ g.
+    let h = g .augmenting 0 (ltb→lt _ _ some) in
+    let l : setOf m 0 * unit (loadOf s) ≤ loadOf s .stream 0 .rate * roundTime (loadOf s) (setOf m) = leb→le _ _ late in
+    omega arith)
+
+p3 : P3
+unfolding showCheck firstBelow counts? drive? layout? session? costOf worstTime edges ceil turns sumTo need all both listed padded
+p3 =
+    record {
+      twice = settles (showOf X (replicate 3 clip)) refl 2 156000 refl tt tt;
+      once = behind (showOf X (replicate 3 clip)) refl (places (replicate 3 1)) tt tt;
+    }
+
+p4 : P4
+unfolding showCheck firstBelow counts? drive? layout? session? costOf worstTime edges ceil turns sumTo need all both listed padded
+p4 =
+    record {
+      twice = settles (showOf far (replicate 2 clip)) refl 2 120000 refl tt tt;
+      once = behind (showOf far (replicate 2 clip)) refl (places (replicate 2 1)) tt tt;
+    }
+
+p5 : P5
+unfolding showCheck firstBelow counts? drive? layout? session? costOf worstTime edges ceil turns sumTo need all both listed padded
+p5 =
+    record {
+      ample = settles (showOf Z (replicate 9 clip)) refl 18 2790000 refl tt tt;
+      even = behind (showOf Z (replicate 9 clip)) refl (places (replicate 9 27)) tt tt;
+      enough = settles (showOf Z (replicate 9 (buffered 1484801))) refl 18 2790000 refl tt tt;
+      short = spills (showOf Z (replicate 9 (buffered 1484800))) refl 18 2790000 refl 0 tt tt;
+    }
+
+p7 : P7
+unfolding showCheck firstBelow counts? drive? layout? session? costOf worstTime edges ceil turns sumTo need all both listed padded
+p7 = record { under = settles (showOf Z (replicate 9 clip ++ (slower ∷ []))) refl 1970 309090000 refl tt tt }
+
+-- ---- p6
+
+module _ (size : ℕ → ℕ) (within : (i : ℕ) → i < 10 → Between 1 (size i) 1073741824) where
+  abbrev clips : ℕ → Session
+  clips i = buffered (size i)
+
+  abbrev ten : Show
+  ten = showOf Z (listed clips 10)
+
+  session-at : (i : ℕ) → i < 10 → sessionAt ten i ≡ buffered (size i)
+  session-at i h =
+      getD-take 16 (listed clips 10 ++ replicate 16 noSession) i noSession (omega arith)
+      ∙ List·getD-append (listed clips 10) (replicate 16 noSession) noSession i (rw (listed-length clips 10) h)
+      ∙ listed-at clips 10 i noSession h
+
+  laid-within : (i : ℕ) → i < 1 → LaidWithin ten i
+  laid-within zero h = omega arith
+  laid-within (suc i) h = absurd (let z : ⊥ = omega arith in z)
+
+  ten-within : ShowWithin ten
+  unfolding listed
+  ten-within =
+      record {
+        counts = omega arith;
+        drive = record { block = omega arith; whole = refl; cylinder = omega arith };
+        layouts = laid-within;
+        sessions = λ i h. rw (session-at i h) (record { rate = omega arith; cushion = omega arith; buffer = within i h; layout = omega arith });
+      }
+
+  p6-at : DecisionIs ten no-set-found
+  unfolding sumTo costOf listed
+  p6-at =
+      no-set ten-within (λ a. overload-refuses (loadOf ten) (show-sound ten ten-within) (le-refl 512000000000) (a .0) (a .1 .augmenting))
+
 pub table : Table
-table = record { p1 = p1 }
+table = record { empty = empty; p1 = p1; p2 = p2; p3 = p3; p4 = p4; p5 = p5; p6 = record { hundred = p6-at }; p7 = p7 }

@@ -1,4 +1,5 @@
 -- The worked numbers of docs/RULES.md, section 5, as one statement over one table. proofs/Table.antt proves it.
+use Prim.Native.Nat.{ℕ, _<_}
 use mathlib.Core.Path.{_≡_}
 use mathlib.Core.List.{List, [], _∷_, _++_}
 use lib.ListN.{length, replicate, take}
@@ -7,8 +8,15 @@ use Rattle.drive.specs.declared.Layout.{Layout}
 use Rattle.drive.specs.declared.Session.{Session}
 use Rattle.drive.specs.declared.Show.{Show}
 use Rattle.drive.specs.declared.cost.Worst.the-variants.{Takes}
-use Rattle.drive.specs.Limits.{noLayout, noSession}
+use Rattle.drive.specs.declared.refusal.Refusal.the-variants.{NoSet}
+use Rattle.drive.specs.Limits.{Between, noLayout, noSession}
+use Rattle.drive.specs.Lists.{listed}
 use Rattle.drive.specs.Worst.{worstOf}
+use Rattle.verdict.specs.declared.Decision.{Decision}
+use Rattle.verdict.specs.declared.Trial.{Trial}
+use Rattle.verdict.specs.declared.Verdict.the-variants as verdict
+use Rattle.verdict.specs.declared.Answer.the-variants as answer
+use Rattle.verdict.specs.Answers.{DecisionIs, TrialIs, refusedFor}
 
 -- A = 51,200, N = 10
 abbrev pub box : Drive
@@ -18,9 +26,17 @@ box = record { block = 51200; cylinder = 10 }
 abbrev pub X : Layout
 X = record { longest = 20000; track = 2000; time = 10000; rotation = 5000 }
 
--- Rate 512,000 and Y = 1; buffers ample
+-- Layout Z: 20,000, 0, 10,000, 5,000
+abbrev pub Z : Layout
+Z = record { longest = 20000; track = 0; time = 10000; rotation = 5000 }
+
+-- Rate 512,000 and Y = 1
+abbrev pub buffered : ℕ → Session
+buffered b = record { rate = 512000; cushion = 1; buffer = b; layout = 0 }
+
+-- buffers ample
 abbrev pub clip : Session
-clip = record { rate = 512000; cushion = 1; buffer = 200000000; layout = 0 }
+clip = buffered 200000000
 
 -- A show of these sessions on one layout: zeros in the unused places
 abbrev pub showOf : Layout → List Session → Show
@@ -33,11 +49,76 @@ showOf y xs =
       playing = length xs;
     }
 
+-- a number for each session, zeros above
+abbrev pub places : List ℕ → List ℕ
+places l = take 16 (l ++ replicate 16 0)
+
+-- Accepted: L, the counts and U of each.
+abbrev pub yes-with : ℕ → List ℕ → List ℕ → Decision
+yes-with L counts times = record { verdict = verdict.Accepted; round = L; counts = places counts; times = places times }
+
+-- Refused 8.
+abbrev pub no-set-found : Decision
+no-set-found = refusedFor NoSet
+
+-- Counts that are no feasible workahead-augmenting set: their L, and U of each.
+abbrev pub not-enough : ℕ → List ℕ → Trial
+not-enough L times = record { answer = answer.Fails; round = L; times = places times }
+
 -- p1. X: U(1) = 42,000, U(10) = 132,000, U(11) = 144,000.
 pub record P1 : Type 0 where
   pub one : worstOf (showOf X (clip ∷ [])) 0 1 ≡ Takes 42000
   pub ten : worstOf (showOf X (clip ∷ [])) 0 10 ≡ Takes 132000
   pub eleven : worstOf (showOf X (clip ∷ [])) 0 11 ≡ Takes 144000
 
+-- p2. One session on X: count 1; with B = 102,401 accepted, with 102,400 refused 8.
+pub record P2 : Type 0 where
+  pub ample : DecisionIs (showOf X (clip ∷ [])) (yes-with 42000 (1 ∷ []) (42000 ∷ []))
+  pub enough : DecisionIs (showOf X (buffered 102401 ∷ [])) (yes-with 42000 (1 ∷ []) (42000 ∷ []))
+  pub short : DecisionIs (showOf X (buffered 102400 ∷ [])) no-set-found
+
+-- p3. Three on X: 2, 2, 2, L = 156,000. (Count 1 gives 126,000 against 100,000.)
+pub record P3 : Type 0 where
+  pub twice : DecisionIs (showOf X (replicate 3 clip)) (yes-with 156000 (replicate 3 2) (replicate 3 52000))
+  pub once : TrialIs (showOf X (replicate 3 clip)) (places (replicate 3 1)) (not-enough 126000 (replicate 3 42000))
+
+-- p4. Two on X with longest seek 28,000: one each gives 100,000 against 100,000, so 2, 2, L = 120,000.
+abbrev pub far : Layout
+far = record { longest = 28000; track = 2000; time = 10000; rotation = 5000 }
+
+pub record P4 : Type 0 where
+  pub twice : DecisionIs (showOf far (replicate 2 clip)) (yes-with 120000 (replicate 2 2) (replicate 2 60000))
+  pub once : TrialIs (showOf far (replicate 2 clip)) (places (replicate 2 1)) (not-enough 100000 (replicate 2 50000))
+
+-- p5. Nine on Z: 28 each, L = 2,790,000. 27 gives 2,700,000 on both sides. B = 1,484,801 does, 1,484,800 does not.
+pub record P5 : Type 0 where
+  pub ample : DecisionIs (showOf Z (replicate 9 clip)) (yes-with 2790000 (replicate 9 28) (replicate 9 310000))
+  pub even : TrialIs (showOf Z (replicate 9 clip)) (places (replicate 9 27)) (not-enough 2700000 (replicate 9 300000))
+  pub enough : DecisionIs (showOf Z (replicate 9 (buffered 1484801))) (yes-with 2790000 (replicate 9 28) (replicate 9 310000))
+  pub short : DecisionIs (showOf Z (replicate 9 (buffered 1484800))) no-set-found
+
+-- p6. Ten on Z, an even hundred per cent: refused 8 at every buffer size.
+pub record P6 : Type 0 where
+  pub hundred :
+      (size : ℕ → ℕ) → ((i : ℕ) → i < 10 → Between 1 (size i) 1073741824) →
+      DecisionIs (showOf Z (listed (λ i. buffered (size i)) 10)) no-set-found
+
+-- p7. As p6 with the tenth at rate 506,880: 3,091 for nine, 3,060 for the tenth, L = 309,090,000.
+abbrev pub slower : Session
+slower = record { rate = 506880; cushion = 1; buffer = 200000000; layout = 0 }
+
+pub record P7 : Type 0 where
+  pub under :
+      DecisionIs (showOf Z (replicate 9 clip ++ (slower ∷ [])))
+      (yes-with 309090000 (replicate 9 3091 ++ (3060 ∷ [])) (replicate 9 30940000 ++ (30630000 ∷ [])))
+
 pub record Table : Type 0 where
+  -- An empty show is accepted with L = 0.
+  pub empty : DecisionIs (showOf X []) (yes-with 0 [] [])
   pub p1 : P1
+  pub p2 : P2
+  pub p3 : P3
+  pub p4 : P4
+  pub p5 : P5
+  pub p6 : P6
+  pub p7 : P7

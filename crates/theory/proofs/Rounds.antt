@@ -1,13 +1,13 @@
 -- The bridge between sets of counts and round times, R1 to R5, and what the verdict's loop cites. Of the bound `rises` is cited.
 -- Assumes nothing.
-use Prim.Native.Nat.{ℕ, _+_, _*_, _/_, _%_, _≤_, _<_}
+use Prim.Native.Nat.{ℕ, zero, suc, _+_, _*_, _/_, _%_, _≤_, _<_}
 use mathlib.Core.Path.{_≡_, sym, _∙_, ap}
 use mathlib.Core.Logic.{_↔_}
 use native.Mathlib.Omega.{arith}
 use native.Mathlib.Nat.{le-refl, le-of-eq, le-trans, le-antisymm, lt-of-le-of-lt, mul-add, mul-left-comm, mul-le-mul, mul-le-mul-left, mul-le-mul-right, mul-add-div, div-add-mod, div-lt-iff-lt-mul}
 use native.Mathlib.Decide.{decLe}
 use Rattle.theory.specs.Counts.{Load, Sound, unit, roundTime, Augmenting, Feasible, Good, Accepted, Smallest}
-use Rattle.theory.specs.Rounds.{need, asked, next, Sustains, Fits, NotPast, LeastTime}
+use Rattle.theory.specs.Rounds.{need, asked, next, turns, Sustains, Fits, NotPast, LeastTime}
 use Rattle.theory.proofs.Sum.{sum-none, sum-grows, sum-same, sum-capped}
 use Rattle.theory.proofs.Search.{least-of}
 use Rattle.drive.proofs.Bound.{bound-grows}
@@ -137,6 +137,11 @@ module _ (l : Load) (s : Sound l) where
 
   pub still-least : (t : ℕ) → NotPast l t → next l t ≤ t → LeastTime l t
   still-least t below h = record { sustains = h; least = below }
+
+  pub turns-below : (k t : ℕ) → NotPast l t → NotPast l (turns l k t)
+  unfolding turns
+  turns-below zero t below = below
+  turns-below (suc k) t below = turns-below k (next l t) (next-below t below)
 
   -- Where it asks a session for a count that does not fit, no set is good.
   pub unfit-refuses :

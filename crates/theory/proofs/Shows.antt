@@ -142,7 +142,7 @@ lightened-lighter a c e (then {b = b} {e = p} {f = q} g h) =
 
 -- ---- unused places
 
-alike-back : (s t : Show) → Alike s t → Alike t s
+pub alike-back : (s t : Show) → Alike s t → Alike t s
 alike-back s t a =
     record {
       drive = sym (a .drive);

@@ -1,5 +1,5 @@
 -- Round times, which lead to the smallest set: proofs/Rounds.antt says how.
-use Prim.Native.Nat.{ℕ, _+_, _*_, _/_, _≤_}
+use Prim.Native.Nat.{ℕ, zero, suc, _+_, _*_, _/_, _≤_}
 use Rattle.theory.specs.Counts.{Load, unit, roundTime, Feasible}
 
 -- The least m with m x D > R x t: R x t / D rounded down, plus 1
@@ -13,6 +13,11 @@ asked l t i = need (l .stream i .rate) (unit l) t
 -- How long the round of those counts is: the next time to try.
 abbrev pub next : Load → ℕ → ℕ
 next l t = roundTime l (asked l t)
+
+-- k turns from t: what the verdict's loop does.
+unfoldable pub turns : Load → ℕ → ℕ → ℕ
+turns l zero t = t
+turns l (suc k) t = turns l k (next l t)
 
 -- A round of t µs is long enough for what it asks for ..
 abbrev pub Sustains : Load → ℕ → Type 0

@@ -21,7 +21,7 @@ use Rattle.verdict.specs.Answers.{DecisionIs, accepted, no-set, outside,
 use Rattle.verdict.proofs.Sets.{times-same}
 
 -- A show within the limits is not refused for them.
-within-outside : {X : Type 0} (s : Show) (w : Refusal) → ShowWithin s → showCheck s ≡ Refused w → X
+pub within-outside : {X : Type 0} (s : Show) (w : Refusal) → ShowWithin s → showCheck s ≡ Refused w → X
 within-outside s w h e = within-refused (sym (within-check s h) ∙ e)
 
 -- One refusal of the limits.
