@@ -1,2 +1,4 @@
 pub mod Table
 pub mod Trips
+pub mod Verdict
+pub mod Lighter

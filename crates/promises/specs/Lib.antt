@@ -1,2 +1,4 @@
 pub mod Numbers
 pub mod Files
+pub mod Verdict
+pub mod Lighter

@@ -132,6 +132,16 @@ module _ (s : Show) (k : ℕ) (inside : k < s .playing) (held : s .playing ≤ l
             (easier-same (without k s) s i (stoodAt k i) e (ap (λ (x : Session). layoutAt s (x .layout)) e)));
       }
 
+  -- What is left is within the limits.
+  pub left-out-within : ShowWithin s → ShowWithin (without k s)
+  left-out-within w =
+      record {
+        counts = record { layouts = w .counts .layouts; sessions = (let n = w .counts .sessions in omega arith) };
+        drive = w .drive;
+        layouts = w .layouts;
+        sessions = λ i h. rw (stood i h (decLt i k)) (w .sessions (stoodAt k i) (stood-inside i h (decLt i k)));
+      }
+
 -- ---- one after another
 
 pub lightened-lighter : (a b : Show) (e : ℕ → ℕ) → Lightened a b e → Lighter (loadOf a) (loadOf b) e

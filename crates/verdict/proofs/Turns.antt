@@ -63,34 +63,34 @@ module _
     (s : Show) (w : ShowWithin s) (i t : ℕ) (l : i < s .playing) (costs : List Cost) (e : costs ≡ costsOf s) (p : Span)
     (f : p ≡ spanOf (unit (loadOf s)) t)
   where
-  asked-same : askedOf (sessionAt s i .rate) p ≡ asked (loadOf s) t i
-  asked-same = span-asked (sessionAt s i .rate) (unit (loadOf s)) t p f
+    asked-same : askedOf (sessionAt s i .rate) p ≡ asked (loadOf s) t i
+    asked-same = span-asked (sessionAt s i .rate) (unit (loadOf s)) t p f
 
-  cost-same : getD costs i noCost ≡ costOf s i
-  cost-same = rw e (costs-at s (w .counts .sessions) i l)
+    cost-same : getD costs i noCost ≡ costOf s i
+    cost-same = rw e (costs-at s (w .counts .sessions) i l)
 
-  share-room : (u : ℕ) → ShareIs (s .drive) (sessionAt s i) (getD costs i noCost) p u → needed (loadOf s) i (asked (loadOf s) t i) ≤ loadOf s .stream i .buffer
-  share-room u h = rw (sym asked-same) (h .room)
+    share-room : (u : ℕ) → ShareIs (s .drive) (sessionAt s i) (getD costs i noCost) p u → needed (loadOf s) i (asked (loadOf s) t i) ≤ loadOf s .stream i .buffer
+    share-room u h = rw (sym asked-same) (h .room)
 
-  share-time : (u : ℕ) → ShareIs (s .drive) (sessionAt s i) (getD costs i noCost) p u → u ≡ loadOf s .stream i .time (asked (loadOf s) t i)
-  share-time u h = h .time ∙ rw (asked-same, cost-same)
+    share-time : (u : ℕ) → ShareIs (s .drive) (sessionAt s i) (getD costs i noCost) p u → u ≡ loadOf s .stream i .time (asked (loadOf s) t i)
+    share-time u h = h .time ∙ rw (asked-same, cost-same)
 
-  -- A turn adds a share ..
-  pub body :
-      (sum u : ℕ) → SoFar s t sum i → ShareIs (s .drive) (sessionAt s i) (getD costs i noCost) p u → SoFar s t (sum + u) (i + 1)
-  body sum u h g =
-      record {
-        inside = omega arith;
-        adds = (let a = h .adds in let b = share-time u g in omega (arith, sum-more (λ k. loadOf s .stream k .time (asked (loadOf s) t k)) i));
-        small = (let a = h .small in let b = g .small in omega arith);
-        rooms = below-more _ _ (h .rooms) (share-room u g);
-      }
+    -- A turn adds a share ..
+    pub body :
+        (sum u : ℕ) → SoFar s t sum i → ShareIs (s .drive) (sessionAt s i) (getD costs i noCost) p u → SoFar s t (sum + u) (i + 1)
+    body sum u h g =
+        record {
+          inside = omega arith;
+          adds = (let a = h .adds in let b = share-time u g in omega (arith, sum-more (λ k. loadOf s .stream k .time (asked (loadOf s) t k)) i));
+          small = (let a = h .small in let b = g .small in omega arith);
+          rooms = below-more _ _ (h .rooms) (share-room u g);
+        }
 
-  -- .. or finds that there is no set.
-  pub full : Below s t → (Room (s .drive .block) (sessionAt s i) (askedOf (sessionAt s i .rate) p) → ⊥) → Accepted (loadOf s) → ⊥
-  full b none =
-      unfit-refuses (loadOf s) (show-sound s w) t (b .low) i l
-      (let h : (needed (loadOf s) i (asked (loadOf s) t i) ≤ loadOf s .stream i .buffer) → ⊥ = (λ r. none (rw asked-same r)) in omega arith)
+    -- .. or finds that there is no set.
+    pub full : Below s t → (Room (s .drive .block) (sessionAt s i) (askedOf (sessionAt s i .rate) p) → ⊥) → Accepted (loadOf s) → ⊥
+    full b none =
+        unfit-refuses (loadOf s) (show-sound s w) t (b .low) i l
+        (let h : (needed (loadOf s) i (asked (loadOf s) t i) ≤ loadOf s .stream i .buffer) → ⊥ = (λ r. none (rw asked-same r)) in omega arith)
 
 module _ (s : Show) (w : ShowWithin s) where
   pub below-start : Below s 0

@@ -98,8 +98,8 @@ loop-again c =
       inside = omega arith;
       places = omega arith;
       row = elim (c .if2 .came) [
-        inl p ↦ p .3 ∙ written _ _ _ _ (h .row) (omega arith) (p .2 .ensures)
-      | inr p ↦ p .1 ∙ unwritten _ _ _ (h .row) (omega arith) (laid-places (c .before .before .before .before .before .before)) (p .0 .left)
+        | inl p ↦ p .3 ∙ written _ _ _ _ (h .row) (omega arith) (p .2 .ensures)
+        | inr p ↦ p .1 ∙ unwritten _ _ _ (h .row) (omega arith) (laid-places (c .before .before .before .before .before .before)) (p .0 .left)
       ];
     }
 
