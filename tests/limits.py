@@ -1,4 +1,5 @@
-"""The limits of docs/RULES.md, section 2, and which of them a show breaks first: for the other scripts here. It shares nothing with the proved code."""
+"""The limits of docs/RULES.md, section 2, which of them a show breaks first, and the worst time of section 3: for the other scripts here. It shares
+nothing with the proved code."""
 
 LAYOUTS, SESSIONS = 8, 16
 
@@ -28,3 +29,8 @@ def fault(drive, layouts, sessions):
         if not session_ok(len(layouts), *x):
             return 7, i
     return None
+
+def worst_time(cylinder, layout, n):
+    longest, track, time, rotation = layout
+    full, part = divmod(n, cylinder)
+    return longest + n * time + (full + (1 if part else 0)) * track + 2 * rotation

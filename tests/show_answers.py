@@ -158,4 +158,5 @@ def main():
     for place, line in enumerate(sys.stdin.read().split('\n')[:-1], 1):
         print(answer(line, place))
 
-main()
+if __name__ == '__main__':
+    main()

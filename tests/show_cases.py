@@ -6,18 +6,10 @@
 What must come of them is not known here: tests/show_answers.py says it.
 """
 import pathlib, struct
+from dice import Dice
 
 LAYOUTS, SESSIONS = 8, 16
 PAST = 2**32 - 1
-
-class Dice:
-    """Numbers that look random and are the same everywhere."""
-    def __init__(self, seed):
-        self.state = seed
-
-    def between(self, least, most):
-        self.state = (self.state * 6364136223846793005 + 1442695040888963407) % 2**64
-        return least + (self.state >> 20) % (most - least + 1)
 
 # ---- shows and files
 
@@ -315,4 +307,5 @@ def main():
     for part in (stored, sizes, notes, limits, places, several, counts, distances, read_orders, cuts, flips, rooms, write_orders, bad_lines):
         part()
 
-main()
+if __name__ == '__main__':
+    main()

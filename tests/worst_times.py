@@ -3,7 +3,7 @@
 
   tests/worst_times.py > crates/times/stdout
 """
-from limits import counts_ok, fault
+from limits import counts_ok, fault, worst_time
 
 def refusal(show, i):
     """The number and place of the first refusal, or None."""
@@ -18,9 +18,7 @@ def worst(show, i, n):
     if no is not None:
         return 'refused %d %d' % no
     (_, cylinder), layouts, _, sessions, _ = show
-    longest, track, time, rotation = layouts[sessions[i][3]]
-    full, part = divmod(n, cylinder)
-    return str(longest + n * time + (full + (1 if part else 0)) * track + 2 * rotation)
+    return str(worst_time(cylinder, layouts[sessions[i][3]], n))
 
 def sample():
     x, bad = (20000, 2000, 10000, 5000), (9, 99, 0, 5)

@@ -5,7 +5,7 @@ use mathlib.Core.List.{List, [], _∷_, _++_, map, append-assoc}
 use native.Mathlib.Numerals.{add-one}
 use native.Mathlib.Omega.{arith}
 use native.Mathlib.Decide.{decLt}
-use lib.ListN.{length, getD, set, replicate, length-map, length-append, length-replicate, List·getD-append, List·getD-eq-default, getD-replicate}
+use lib.ListN.{length, getD, set, replicate, length-map, length-append, List·getD-append, List·getD-eq-default}
 use lib.Seq.{set-at, getD-append-add}
 use Rattle.drive.specs.Lists.{listed, padded}
 
@@ -72,10 +72,6 @@ module _ {A : Type 0} where
         padded-left k z (listed f i) i (listed-length f i) h
         ∙ ap (λ (a : A). padded k z (listed f i ++ (a ∷ []))) (sym e)
         ∙ ap (padded k z) (listed-more f i)
-
-    pub filled-length : (n : ℕ) → n ≤ k → length (padded k z (listed f n)) ≡ k
-    unfolding padded
-    filled-length n h = rw (length-append, length-replicate, listed-length f n) (omega arith)
 
   pub listed-at : (f : ℕ → A) (n i : ℕ) (d : A) → i < n → getD (listed f n) i d ≡ f i
   unfolding listed

@@ -12,7 +12,7 @@ use Rattle.theory.proofs.Lighter.{lighter-accepted, lighter-counts, lighter-tim
 use Rattle.theory.proofs.Shows.{show-sound, lightened-lighter, left-out-within}
 use Rattle.verdict.specs.declared.Decision.{Decision}
 use Rattle.verdict.specs.declared.Verdict.the-variants as verdict
-use Rattle.verdict.specs.Answers.{DecisionIs, setOf, acceptedWith}
+use Rattle.verdict.specs.Answers.{DecisionIs, acceptedWith}
 use Rattle.verdict.proofs.Sets.{set-of-row}
 use Rattle.verdict.proofs.Decisions.{accepted-set, accepted-if}
 use Rattle.promises.specs.Lighter.{NoWorse}

@@ -29,7 +29,7 @@ use Rattle.theory.proofs.Overload.{overload-refuses}
 use Rattle.theory.proofs.Shows.{show-sound}
 use Rattle.verdict.specs.declared.Answer.the-variants.{Fails}
 use Rattle.verdict.specs.Answers.{DecisionIs, accepted, no-set, TrialIs, fails, acceptedWith, setOf, timedAs}
-use Rattle.promises.specs.Numbers.{P1, P2, P3, P4, P5, P6, P7, Table, X, Z, far, buffered, clip, slower, showOf, places, yes-with, no-set-found}
+use Rattle.promises.specs.Numbers.{P1, P2, P3, P4, P5, P7, Table, X, Z, far, buffered, clip, slower, showOf, places, yes-with, no-set-found}
 
 -- ---- tests that compute
 

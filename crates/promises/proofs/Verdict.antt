@@ -5,7 +5,6 @@ use Rattle.drive.specs.declared.Show.{Show}
 use Rattle.theory.specs.Counts.{Smallest}
 use Rattle.theory.specs.Shows.{loadOf}
 use Rattle.theory.proofs.Rounds.{smallest-same, round-same}
-use Rattle.verdict.specs.declared.Decision.{Decision}
 use Rattle.verdict.specs.Answers.{acceptedWith, setOf}
 use Rattle.verdict.proofs.Sets.{set-of-row}
 use Rattle.verdict.proofs.Once.{decision-once, trial-once}

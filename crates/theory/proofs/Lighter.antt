@@ -1,14 +1,13 @@
 -- A lighter load stays accepted, with no larger counts and no longer a round. Of U the law `rises` is cited. Assumes nothing.
 use Prim.Native.Nat.{ℕ, _≤_, _<_}
-use mathlib.Core.Path.{_≡_, _∙_}
+use mathlib.Core.Path.{_∙_}
 use native.Mathlib.Omega.{arith}
-use native.Mathlib.Nat.{le-refl, le-trans, lt-of-le-of-lt, mul-le-mul}
+use native.Mathlib.Nat.{le-trans, lt-of-le-of-lt, mul-le-mul}
 use Rattle.drive.proofs.Bound.{bound-grows}
-use Rattle.theory.specs.Counts.{Stream, Load, Sound, unit, roundTime, Augmenting, Feasible, Good, Accepted, Smallest}
-use Rattle.theory.specs.Rounds.{asked, Sustains, LeastTime}
+use Rattle.theory.specs.Counts.{Stream, Load, Sound, roundTime, Augmenting, Feasible, Good, Accepted, Smallest}
 use Rattle.theory.specs.Lighter.{Light, Lighter}
 use Rattle.theory.proofs.Sum.{sum-grows, sum-part}
-use Rattle.theory.proofs.Rounds.{need-grows, unit-some}
+use Rattle.theory.proofs.Rounds.{round-grows}
 
 light-then : (c d f : Stream) → Light c d → Light d f → Light c f
 light-then c d f p q =
@@ -71,6 +70,4 @@ module _ (a b : Load) (e : ℕ → ℕ) (t : Lighter a b e) where
 
     -- .. or the round.
     pub lighter-rounds : (p m : ℕ → ℕ) → Smallest a p → Smallest b m → roundTime a p ≤ roundTime b m
-    lighter-rounds p m x y =
-        le-trans (sum-grows _ (λ i. b .stream (e i) .time (m (e i))) (a .playing) (lighter-times p m x y))
-        (sum-part (λ j. b .stream j .time (m j)) e (a .playing) (b .playing) (t .inside) (t .rising))
+    lighter-rounds p m x y = le-trans (round-grows a s p (λ i. m (e i)) (lighter-counts p m x y)) (lighter-round m)

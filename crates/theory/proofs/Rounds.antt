@@ -1,14 +1,13 @@
 -- The bridge between sets of counts and round times, R1 to R5, and what the verdict's loop cites. Of the bound `rises` is cited.
 -- Assumes nothing.
-use Prim.Native.Nat.{ℕ, zero, suc, _+_, _*_, _/_, _%_, _≤_, _<_}
-use mathlib.Core.Path.{_≡_, sym, _∙_, ap}
-use mathlib.Core.Logic.{_↔_}
+use Prim.Native.Nat.{ℕ, zero, suc, _+_, _*_, _/_, _≤_, _<_}
+use mathlib.Core.Path.{_≡_, _∙_, ap}
 use native.Mathlib.Omega.{arith}
-use native.Mathlib.Nat.{le-refl, le-of-eq, le-trans, le-antisymm, lt-of-le-of-lt, mul-add, mul-left-comm, mul-le-mul, mul-le-mul-left, mul-le-mul-right, mul-add-div, div-add-mod, div-lt-iff-lt-mul}
+use native.Mathlib.Nat.{le-refl, le-trans, le-antisymm, lt-of-le-of-lt, mul-add, mul-left-comm, mul-le-mul, mul-le-mul-left, mul-le-mul-right, mul-add-div, div-lt-iff-lt-mul}
 use native.Mathlib.Decide.{decLe}
 use Rattle.theory.specs.Counts.{Load, Sound, unit, roundTime, Augmenting, Feasible, Good, Accepted, Smallest}
 use Rattle.theory.specs.Rounds.{need, asked, next, turns, Sustains, Fits, NotPast, LeastTime}
-use Rattle.theory.proofs.Sum.{sum-none, sum-grows, sum-same, sum-capped}
+use Rattle.theory.proofs.Sum.{sum-grows, sum-same}
 use Rattle.theory.proofs.Search.{least-of}
 use Rattle.drive.proofs.Bound.{bound-grows}
 
@@ -21,16 +20,12 @@ pub need-least : (r D t m : ℕ) → 1 ≤ D → r * t < m * D → need r D t �
 unfolding need
 need-least r D t m h g = let d : r * t / D < m = div-lt-iff-lt-mul h .1 g in omega arith
 
-pub need-exactly : (r D t m : ℕ) → 1 ≤ D → (need r D t ≤ m) ↔ (r * t < m * D)
-need-exactly r D t m h = (need-enough r D t m h, need-least r D t m h)
-
--- N2: what the code computes, so that R x t is never formed.
-pub need-split : (r D t : ℕ) → 1 ≤ D → need r D t ≡ r * (t / D) + r * (t % D) / D + 1
+-- N2: what the code computes of a time D q + p, so that R x t is never formed.
+pub need-split : (r D q p : ℕ) → 1 ≤ D → need r D (D * q + p) ≡ r * q + r * p / D + 1
 unfolding need
-need-split r D t h =
-    ap (λ (x : ℕ). r * x / D + 1) (sym (div-add-mod t D))
-    ∙ ap (λ (x : ℕ). x / D + 1) (mul-add r (D * (t / D)) (t % D) ∙ ap (λ (x : ℕ). x + r * (t % D)) (mul-left-comm r D (t / D)))
-    ∙ ap (λ (x : ℕ). x + 1) (mul-add-div h (r * (t / D)) (r * (t % D)))
+need-split r D q p h =
+    ap (λ (x : ℕ). x / D + 1) (mul-add r (D * q) p ∙ ap (λ (x : ℕ). x + r * p) (mul-left-comm r D q))
+    ∙ ap (λ (x : ℕ). x + 1) (mul-add-div h (r * q) (r * p))
 
 -- need grows with the rate and with the time.
 pub need-grows : (D : ℕ) {r s t x : ℕ} → 1 ≤ D → r ≤ s → t ≤ x → need r D t ≤ need s D x
@@ -52,10 +47,6 @@ feasible-below l {m} {o} h f i b =
 pub count-capped : (m A Y B : ℕ) → 512 ≤ A → B ≤ 1073741824 → (m + 1) * A + Y ≤ B → m < 2097152
 count-capped m A Y B h g f =
     let p : (m + 1) * 512 ≤ (m + 1) * A = mul-le-mul-left (m + 1) h in omega arith
-
--- A round of operations of at most k µs each.
-pub round-capped : (l : Load) (m : ℕ → ℕ) (k : ℕ) → ((i : ℕ) → i < l .playing → l .stream i .time (m i) ≤ k) → roundTime l m ≤ l .playing * k
-round-capped l m k h = sum-capped (λ i. l .stream i .time (m i)) k (l .playing) h
 
 module _ (l : Load) (s : Sound l) where
   pub unit-some : 1 ≤ unit l
@@ -150,21 +141,9 @@ module _ (l : Load) (s : Sound l) where
   unfit-refuses t below i b u a =
       let f = feasible-below l (least-below t below (a .0) (a .1 .augmenting)) (a .1 .feasible) i b in omega arith
 
--- An empty show's least time is 0.
-pub empty-least : (l : Load) → l .playing ≡ 0 → LeastTime l 0
-empty-least l e = record { sustains = rw e (le-of-eq (sum-none (λ i. l .stream i .time (asked l 0 i)))); least = λ x h. omega arith }
-
--- So it is accepted.
-pub empty-accepted : (l : Load) → Sound l → l .playing ≡ 0 → Accepted l
-empty-accepted l s e = time-accepts l s 0 (empty-least l e .sustains) (λ i b. absurd (let f : ⊥ = omega arith in f))
-
 -- There is one smallest set.
 pub smallest-once : (l : Load) (m o : ℕ → ℕ) → Smallest l m → Smallest l o → (i : ℕ) → i < l .playing → m i ≡ o i
 smallest-once l m o p q i b = le-antisymm (p .least o (q .good) i b) (q .least m (p .good) i b)
-
--- There is one least time.
-pub least-once : (l : Load) (t x : ℕ) → LeastTime l t → LeastTime l x → t ≡ x
-least-once l t x p q = le-antisymm (p .least x (q .sustains)) (q .least t (p .sustains))
 
 -- What holds of a set holds of one that agrees with it at every session: the code's array of counts.
 pub round-same : (l : Load) (m o : ℕ → ℕ) → ((i : ℕ) → i < l .playing → m i ≡ o i) → roundTime l m ≡ roundTime l o

@@ -1,7 +1,7 @@
 -- The theory at shows: a show within its limits is a sound load, and a lightened show a lighter one. Assumes nothing.
 use Prim.Native.Nat.{ℕ, _+_, _-_, _≤_, _<_}
 use mathlib.Core.Path.{_≡_, refl, sym, _∙_, ap}
-use mathlib.Core.Logic.{ite, if-pos, if-neg}
+use mathlib.Core.Logic.{if-pos, if-neg}
 use mathlib.Core.List.{List, _∷_, [], _++_}
 use native.Mathlib.Omega.{arith}
 use native.Mathlib.Nat.{le-of-eq, le-trans}
@@ -12,13 +12,12 @@ use Rattle.drive.specs.declared.Drive.{Drive}
 use Rattle.drive.specs.declared.Layout.{Layout}
 use Rattle.drive.specs.declared.Session.{Session}
 use Rattle.drive.specs.declared.Show.{Show}
-use Rattle.drive.specs.declared.cost.Cost.{Cost}
 use Rattle.drive.specs.Limits.{ShowWithin, Alike, layoutAt, sessionAt, noSession}
 use Rattle.drive.specs.Bound.{Cheaper, worstTime}
 use Rattle.drive.specs.Worst.{costOf}
 use Rattle.drive.proofs.Bound.{worst-cheaper}
 use Rattle.drive.proofs.Costs.{session-laws, read-cheaper}
-use Rattle.theory.specs.Counts.{Load, Sound, Good, Smallest}
+use Rattle.theory.specs.Counts.{Sound, Good, Smallest}
 use Rattle.theory.specs.Lighter.{Light, Lighter}
 use Rattle.theory.specs.Shows.{loadOf, Quicker, Easier, Eased, without, stoodAt, Lightened, eased, left-out, then}
 use Rattle.theory.proofs.Lighter.{lighter-then, lighter-good}

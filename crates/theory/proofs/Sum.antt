@@ -3,7 +3,7 @@ use Prim.Native.Nat.{ℕ, zero, suc, _+_, _*_, _≤_, _<_}
 use mathlib.Core.Path.{_≡_, refl, sym, _∙_, ap}
 use native.Mathlib.Omega.{arith}
 use native.Mathlib.Numerals.{add-one}
-use native.Mathlib.Nat.{le-refl, le-of-eq, add-le-add, zero-mul, one-mul, add-mul}
+use native.Mathlib.Nat.{le-refl, add-le-add, zero-mul, add-mul}
 use native.Mathlib.Decide.{le-ind}
 use Rattle.theory.specs.Sum.{sumTo}
 
@@ -32,14 +32,6 @@ unfolding sumTo
 sum-same f g zero h = refl
 sum-same f g (suc n) h =
     let p = sum-same f g n (λ i l. h i (omega arith)) in let q = h n (omega arith) in omega arith
-
-pub sum-capped : (f : ℕ → ℕ) (k n : ℕ) → ((i : ℕ) → i < n → f i ≤ k) → sumTo f n ≤ n * k
-unfolding sumTo
-sum-capped f k zero h = le-of-eq (sym (zero-mul k))
-sum-capped f k (suc n) h =
-    let p = sum-capped f k n (λ i l. h i (omega arith)) in
-    let q = h n (omega arith) in
-    omega (arith, add-mul n 1 k, one-mul k, ap (λ (x : ℕ). x * k) (add-one n))
 
 pub sum-longer : (f : ℕ → ℕ) {m n : ℕ} → m ≤ n → sumTo f m ≤ sumTo f n
 unfolding sumTo

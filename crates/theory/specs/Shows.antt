@@ -1,7 +1,7 @@
 -- A show as a load; and shows made lighter, each a changed copy of a show.
 use Prim.Native.Nat.{ℕ, _+_, _-_, _≤_, _<_}
 use mathlib.Core.Path.{_≡_}
-use mathlib.Core.List.{List, _∷_, [], _++_}
+use mathlib.Core.List.{_∷_, [], _++_}
 use mathlib.Core.Logic.{ite}
 use native.Mathlib.Decide.{decLt}
 use lib.ListN.{length, take, drop}

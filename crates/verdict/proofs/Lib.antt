@@ -1,6 +1,6 @@
 pub mod Spans
-pub mod Turns
 pub mod Sets
+pub mod Turns
 pub mod Once
 pub mod Decisions
 pub mod Unused

@@ -11,7 +11,7 @@ use Rattle.drive.specs.Lists.{padded}
 use Rattle.drive.proofs.Checks.{within-refused}
 use Rattle.drive.proofs.Lists.{listed-same}
 use Rattle.drive.proofs.Shows.{within-check}
-use Rattle.theory.specs.Counts.{Load, Smallest}
+use Rattle.theory.specs.Counts.{Load}
 use Rattle.theory.specs.Shows.{loadOf}
 use Rattle.theory.proofs.Rounds.{smallest-once, round-same}
 use Rattle.verdict.specs.declared.Verdict.the-variants.{Accepted}

@@ -3,6 +3,7 @@ use Prim.Native.Nat.{ℕ, _+_, _*_, _≤_, _<_}
 use mathlib.Core.Path.{_≡_, sym, _∙_, ap, subst}
 use mathlib.Core.List.{List}
 use native.Mathlib.Omega.{arith}
+use native.Mathlib.Nat.{le-trans}
 use lib.ListN.{getD, set}
 use borrow.Author.Count.{below-more}
 use Rattle.drive.specs.declared.Show.{Show}
@@ -12,16 +13,16 @@ use Rattle.drive.specs.Bound.{Limited, worstTime}
 use Rattle.drive.specs.Lists.{listed, padded}
 use Rattle.drive.specs.Worst.{costOf, costsOf, noCost}
 use Rattle.drive.proofs.Costs.{cost-limited, costs-at}
-use Rattle.drive.proofs.Lists.{filled-none, filled-more, filled-at, listed-same}
+use Rattle.drive.proofs.Lists.{filled-more, filled-at, listed-same}
 use Rattle.theory.specs.Sum.{sumTo}
 use Rattle.theory.specs.Counts.{Load, unit, roundTime, Good}
 use Rattle.theory.specs.Rounds.{asked, Fits}
 use Rattle.theory.specs.Shows.{loadOf}
 use Rattle.theory.proofs.Sum.{sum-none, sum-more}
-use Rattle.theory.proofs.Rounds.{count-capped, need-enough, need-least, unit-some, round-same}
+use Rattle.theory.proofs.Rounds.{count-capped, need-enough, need-least, need-some, unit-some, round-same}
 use Rattle.theory.proofs.Shows.{show-sound}
 use Rattle.verdict.specs.Answers.{row, timesOf, setOf, TrialIs, holds, fails}
-use Rattle.verdict.specs.Steps.{spanOf, givenMost, Short, askedOf, timeMost, Held, Holds, timedOf}
+use Rattle.verdict.specs.Steps.{spanOf, givenMost, timeMost, Held, Holds, timedOf}
 use Rattle.verdict.specs.declared.Answer.{Answer}
 use Rattle.verdict.specs.declared.Answer.the-variants as answer
 use Rattle.verdict.specs.declared.Trial.{Trial}
@@ -77,7 +78,7 @@ times-body s f sum out i u w h l e g =
     }
 
 module _ (s : Show) (w : ShowWithin s) (costs : List Cost) (e : costs ≡ costsOf s) (i : ℕ) (l : i < s .playing) where
-  cost-same : getD costs i noCost ≡ costOf s i
+  pub cost-same : getD costs i noCost ≡ costOf s i
   cost-same = rw e (costs-at s (w .counts .sessions) i l)
 
   pub cost-of-limited : Limited (getD costs i noCost)
@@ -114,7 +115,6 @@ module _ (s : Show) (p : Span) (m : ℕ → ℕ) where
         let at : (k : ℕ) → k < s .playing → Held (s .drive .block) (sessionAt s k) p (m k) =
         (λ k g. h .held k (let a = h .inside in omega arith)) in
         record {
-          some = λ k g. at k g .some;
           room = λ k g. at k g .room;
           ahead = λ k g. rw (sym (span-asked (sessionAt s k .rate) (unit (loadOf s)) t p e)) (at k g .ahead);
         }
@@ -123,7 +123,6 @@ module _ (s : Show) (p : Span) (m : ℕ → ℕ) where
     held-broken i l none h =
         none
         (record {
-          some = h .some i l;
           room = h .room i l;
           ahead = rw (span-asked (sessionAt s i .rate) (unit (loadOf s)) t p e) (h .ahead i l);
         })
@@ -133,7 +132,7 @@ module _ (s : Show) (w : ShowWithin s) (m : ℕ → ℕ) where
   pub holds-good : Holds (loadOf s) (roundTime (loadOf s) m) m → Good (loadOf s) m
   holds-good h =
       record {
-        counted = h .some;
+        counted = λ i l. le-trans (need-some (loadOf s .stream i .rate) (unit (loadOf s)) (roundTime (loadOf s) m)) (h .ahead i l);
         augmenting = λ i l. need-enough _ _ _ _ (unit-some (loadOf s) (show-sound s w)) (h .ahead i l);
         feasible = h .room;
       }
@@ -141,7 +140,6 @@ module _ (s : Show) (w : ShowWithin s) (m : ℕ → ℕ) where
   pub good-holds : Good (loadOf s) m → Holds (loadOf s) (roundTime (loadOf s) m) m
   good-holds g =
       record {
-        some = g .counted;
         room = g .feasible;
         ahead = λ i l. need-least _ _ _ _ (unit-some (loadOf s) (show-sound s w)) (g .augmenting i l);
       }

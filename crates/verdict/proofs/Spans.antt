@@ -1,8 +1,8 @@
 -- A time in units of A x 1,000,000, and what a session is asked for over it. Assumes nothing.
-use Prim.Native.Nat.{ℕ, _+_, _*_, _/_, _%_, _≤_, _<_}
-use mathlib.Core.Path.{_≡_, sym, _∙_, ap}
+use Prim.Native.Nat.{ℕ, _+_, _*_, _/_, _≤_, _<_}
+use mathlib.Core.Path.{_≡_, ap}
 use native.Mathlib.Omega.{arith}
-use native.Mathlib.Nat.{le-trans, add-le-add, mul-le-mul, mul-left-comm, mul-add, mul-add-div, div-add-mod, div-le-self, mod-lt, div-lt-iff-lt-mul}
+use native.Mathlib.Nat.{le-trans, add-le-add, mul-le-mul, div-add-mod, div-le-self, mod-lt, div-lt-iff-lt-mul}
 use Rattle.drive.specs.Limits.{Between}
 use Rattle.theory.specs.Rounds.{need}
 use Rattle.verdict.specs.Steps.{spanOf, Short, askedOf, givenMost}
@@ -11,14 +11,6 @@ use Rattle.verdict.specs.declared.round.Span.{Span}
 -- A time that is split and put together again is the same time.
 pub span-asked : (r D t : ℕ) (p : Span) → p ≡ spanOf D t → askedOf r p ≡ need r D t
 span-asked r D t p e = rw e (ap (need r D) (div-add-mod t D))
-
--- The least count ahead of a rate, from the two parts of the time: N2.
-pub parts-asked : (r : ℕ) (p : Span) → 1 ≤ p .unit → r * p .whole + r * p .part / p .unit + 1 ≡ askedOf r p
-unfolding need
-parts-asked r p h =
-    ap (λ (x : ℕ). x + 1) (sym (mul-add-div h (r * p .whole) (r * p .part)))
-    ∙ ap (λ (x : ℕ). x / p .unit + 1)
-    (ap (λ (x : ℕ). x + r * p .part) (mul-left-comm (p .unit) r (p .whole)) ∙ sym (mul-add r (p .unit * p .whole) (p .part)))
 
 -- The parts, times a rate, fit 64 bits.
 module _ (r : ℕ) (p : Span) (h : r ≤ 100000000) (s : Short p) where

@@ -1,28 +1,27 @@
 -- The deciding loop: t is never above a time that sustains, and the round of what t asks for is added up session by session.
 -- Assumes nothing.
 use Prim.Native.Nat.{ℕ, _+_, _*_, _≤_, _<_}
-use mathlib.Core.Path.{_≡_, sym, _∙_, ap, subst}
+use mathlib.Core.Path.{_≡_, sym, _∙_, ap}
 use mathlib.Core.List.{List}
 use native.Mathlib.Omega.{arith}
 use lib.ListN.{getD}
 use borrow.Author.Count.{below-more}
-use Rattle.drive.specs.declared.Session.{Session}
 use Rattle.drive.specs.declared.Show.{Show}
 use Rattle.drive.specs.declared.cost.Cost.{Cost}
 use Rattle.drive.specs.Limits.{ShowWithin, sessionAt}
-use Rattle.drive.specs.Bound.{worstMost, Limited, worstTime}
-use Rattle.drive.specs.Worst.{costOf, costsOf, noCost}
-use Rattle.drive.proofs.Costs.{cost-limited, costs-at}
+use Rattle.drive.specs.Bound.{worstMost}
+use Rattle.drive.specs.Worst.{costsOf, noCost}
 use Rattle.theory.specs.Sum.{sumTo}
 use Rattle.theory.specs.Counts.{Accepted, needed, unit}
-use Rattle.theory.specs.Rounds.{asked, next, Fits, NotPast, LeastTime}
+use Rattle.theory.specs.Rounds.{asked, next, NotPast}
 use Rattle.theory.specs.Shows.{loadOf}
 use Rattle.theory.proofs.Sum.{sum-none, sum-more}
 use Rattle.theory.proofs.Rounds.{start-below, next-below, still-least, unfit-refuses}
 use Rattle.theory.proofs.Shows.{show-sound}
-use Rattle.verdict.specs.Steps.{roundMost, givenMost, spanOf, Short, askedOf, Room, Sharing, ShareIs, Settled}
+use Rattle.verdict.specs.Steps.{roundMost, givenMost, spanOf, askedOf, Room, Sharing, ShareIs, Settled}
 use Rattle.verdict.specs.declared.round.Span.{Span}
 use Rattle.verdict.proofs.Spans.{span-asked, span-short}
+use Rattle.verdict.proofs.Sets.{cost-same, cost-of-limited}
 
 -- Within the limits a session's share can be asked for.
 pub can-share :
@@ -33,7 +32,7 @@ can-share s w i t l small costs e p f =
       block = w .drive .block .low;
       rate = w .sessions i l .rate .high;
       buffer = w .sessions i l .buffer .high;
-      limited = rw (e, costs-at s (w .counts .sessions) i l) (cost-limited s w i l);
+      limited = cost-of-limited s w costs e i l;
       span = span-short (s .drive .block) t p (w .drive .block) small f;
     }
 
@@ -66,14 +65,11 @@ module _
     asked-same : askedOf (sessionAt s i .rate) p ≡ asked (loadOf s) t i
     asked-same = span-asked (sessionAt s i .rate) (unit (loadOf s)) t p f
 
-    cost-same : getD costs i noCost ≡ costOf s i
-    cost-same = rw e (costs-at s (w .counts .sessions) i l)
-
     share-room : (u : ℕ) → ShareIs (s .drive) (sessionAt s i) (getD costs i noCost) p u → needed (loadOf s) i (asked (loadOf s) t i) ≤ loadOf s .stream i .buffer
     share-room u h = rw (sym asked-same) (h .room)
 
     share-time : (u : ℕ) → ShareIs (s .drive) (sessionAt s i) (getD costs i noCost) p u → u ≡ loadOf s .stream i .time (asked (loadOf s) t i)
-    share-time u h = h .time ∙ rw (asked-same, cost-same)
+    share-time u h = h .time ∙ rw (asked-same, cost-same s w costs e i l)
 
     -- A turn adds a share ..
     pub body :

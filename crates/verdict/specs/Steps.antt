@@ -77,13 +77,11 @@ SettledAs s Full = Accepted (loadOf s) → ⊥
 abbrev pub timedOf : Load → (ℕ → ℕ) → Timed
 timedOf l m = record { round = roundTime l m; times = timesOf l m }
 
--- A count is at least 1, has room, and is no less than what is asked.
+-- A count has room, and is no less than what is asked: so it is at least 1.
 pub record Held (A : ℕ) (x : Session) (p : Span) (m : ℕ) : Type 0 where
-  pub some : 1 ≤ m
   pub room : Room A x m
   pub ahead : askedOf (x .rate) p ≤ m
 
 pub record Holds (l : Load) (t : ℕ) (m : ℕ → ℕ) : Type 0 where
-  pub some : (i : ℕ) → i < l .playing → 1 ≤ m i
   pub room : (i : ℕ) → i < l .playing → needed l i (m i) ≤ l .stream i .buffer
   pub ahead : (i : ℕ) → i < l .playing → asked l t i ≤ m i

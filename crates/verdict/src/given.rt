@@ -39,14 +39,11 @@ pub(crate) fn times_of(show: Show, costs: [Cost; 16], counts: [u32; 16]) -> Time
     Timed { round, times }
 }
 
-// A session's count is at least 1, fits its buffer, and is ahead of its rate over the time.
+// A session's count fits its buffer and is ahead of its rate over the time: so it is at least 1.
 fn held(block: u32, session: Session, span: Span, count: u32) -> bool
     requires { ⌜ (512 ≤ block) × (session .rate ≤ 100000000) × (session .buffer ≤ 1073741824) × Short span ⌝ }
     ensures { λ r. ⌜ Tells r (Held block session span count) ⌝ }
 {
-    if count < 1 {
-        return false;
-    }
     if !fits(block, session, count as u64) {
         return false;
     }

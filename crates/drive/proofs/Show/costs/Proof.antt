@@ -6,7 +6,6 @@ use mathlib.Core.List.{List}
 use native.Mathlib.Omega.{arith}
 use borrow.Author.Needs.{needs}
 use lib.ListN.{length, set}
-use Rattle.drive.specs.declared.Layout.{Layout}
 use Rattle.drive.specs.declared.Show.{Show}
 use Rattle.drive.specs.declared.cost.Cost.{Cost}
 use Rattle.drive.specs.Limits.{layoutAt, sessionAt, noLayout}

@@ -1,35 +1,30 @@
--- `held` tells whether a count is at least 1, fits, and is ahead of its rate. Assumes nothing.
+-- `held` tells whether a count fits and is ahead of its rate. Assumes nothing.
 use mathlib.Core.Path.{sym}
-use native.Mathlib.Omega.{arith}
 use borrow.Author.Needs.{needs}
 use borrow.Author.Tests.{not-true, not-false}
 use Rattle.drive.proofs.Checks.{tells-yes, tells-no}
 use Rattle.verdict.proofs.given.held.Statement.{statement}
 use Rattle.verdict.proofs.given.held.Tie as tie
 
-returns : tie.Need-returns
-returns c = search needs
-
 fits-requires : tie.Need-fits-requires
 fits-requires c κs = search needs
 
-returns-2 : tie.Need-returns-2
-returns-2 c =
-    λ h. tells-no _ (c .before .fits2 .result) (not-true _ (c .if2 .taken)) (c .before .fits2 .ensures) (h .room)
+returns : tie.Need-returns
+returns c =
+    λ h. tells-no _ (c .before .fits2 .result) (not-true _ (c .if1 .taken)) (c .before .fits2 .ensures) (h .room)
 
 need-requires : tie.Need-need-requires
 need-requires c κs = search needs
 
-returns-3 : tie.Need-returns-3
-returns-3 c = search needs
+returns-2 : tie.Need-returns-2
+returns-2 c = search needs
 
-returns-4 : tie.Need-returns-4
-returns-4 c =
+returns-3 : tie.Need-returns-3
+returns-3 c =
     record {
-      some = search needs;
-      room = tells-yes _ (c .before .before .before .fits2 .result) (not-false _ (c .before .before .if2 .left)) (c .before .before .before .fits2 .ensures);
-      ahead = rw (sym (c .before .need .ensures)) (c .if3 .left);
+      room = tells-yes _ (c .before .before .before .fits2 .result) (not-false _ (c .before .before .if1 .left)) (c .before .before .before .fits2 .ensures);
+      ahead = rw (sym (c .before .need .ensures)) (c .if2 .left);
     }
 
 pub held-spec : {M : Type 1} → statement M
-held-spec = tie.close (tie.spec returns fits-requires returns-2 need-requires returns-3 returns-4)
+held-spec = tie.close (tie.spec fits-requires returns need-requires returns-2 returns-3)

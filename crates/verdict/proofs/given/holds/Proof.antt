@@ -1,6 +1,5 @@
 -- `holds` tells whether every count holds. Invariant: those of the first i sessions do; what falls: playing - i. Assumes nothing.
 use Prim.Native.Nat.{_-_}
-use mathlib.Core.Path.{_≡_}
 use native.Mathlib.Omega.{arith}
 use borrow.Author.Needs.{needs}
 use borrow.Author.Tests.{not-true, not-false}

@@ -1,7 +1,9 @@
 -- `need` computes the least count ahead of a rate, and never forms the rate times the time. Assumes nothing.
+use mathlib.Core.Path.{sym}
 use native.Mathlib.Omega.{arith}
 use borrow.Author.Needs.{needs}
-use Rattle.verdict.proofs.Spans.{whole-capped, part-capped, sum-capped, parts-asked}
+use Rattle.theory.proofs.Rounds.{need-split}
+use Rattle.verdict.proofs.Spans.{whole-capped, part-capped, sum-capped}
 use Rattle.verdict.proofs.round.need.Statement.{statement}
 use Rattle.verdict.proofs.round.need.Tie as tie
 
@@ -21,7 +23,7 @@ add-result-2 : tie.Need-add-result-2
 add-result-2 c = omega (arith, sum-capped _ _ (c .before .before .before .pre .0) (c .before .before .before .pre .1))
 
 returns : tie.Need-returns
-returns c = parts-asked _ _ (c .before .before .before .pre .1 .some)
+returns c = sym (need-split _ _ _ _ (c .before .before .before .pre .1 .some))
 
 pub need-spec : {M : Type 1} → statement M
 need-spec = tie.close (tie.spec mul-whole mul-part div-part add-result add-result-2 returns)
