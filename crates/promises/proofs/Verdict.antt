@@ -10,10 +10,10 @@ use Rattle.verdict.proofs.Sets.{set-of-row}
 use Rattle.verdict.proofs.Once.{decision-once, trial-once}
 use Rattle.verdict.proofs.Decisions.{accepted-set, accepted-exactly}
 use Rattle.verdict.proofs.Unused.{alike-decision, alike-trial}
-use Rattle.promises.specs.Verdict.{Told, Verdicts}
+use Rattle.promises.specs.Verdict.{SmallestSet, Verdicts}
 
 -- What is told of a set, the answer being its rows.
-told-of : (s : Show) (m : ℕ → ℕ) → Smallest (loadOf s) m → Told s (acceptedWith (loadOf s) m)
+told-of : (s : Show) (m : ℕ → ℕ) → Smallest (loadOf s) m → SmallestSet s (acceptedWith (loadOf s) m)
 told-of s m h =
     let l = loadOf s in
     let same : (i : ℕ) → i < l .playing → m i ≡ setOf (acceptedWith l m .counts) i = (λ i b. sym (set-of-row l m i b)) in
@@ -29,7 +29,7 @@ pub verdicts : Verdicts
 verdicts =
     record {
       accepted-exactly = accepted-exactly;
-      told = λ s d h e. (let a = accepted-set s d h e in subst (Told s) (sym (a .answer)) (told-of s (a .set) (a .smallest)));
+      told = λ s d h e. (let a = accepted-set s d h e in subst (SmallestSet s) (sym (a .answer)) (told-of s (a .set) (a .smallest)));
       one-decision = decision-once;
       one-trial = trial-once;
       unused = alike-decision;

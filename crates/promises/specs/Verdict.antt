@@ -14,7 +14,7 @@ use Rattle.verdict.specs.declared.Verdict.the-variants as verdict
 use Rattle.verdict.specs.Answers.{DecisionIs, TrialIs, setOf}
 
 -- What an accepted show is told.
-pub record Told (s : Show) (d : Decision) : Type 0 where
+pub record SmallestSet (s : Show) (d : Decision) : Type 0 where
   -- a feasible workahead-augmenting set ..
   pub good : Good (loadOf s) (setOf (d .counts))
   -- .. that is at most any other such set's for every session
@@ -26,7 +26,7 @@ pub record Told (s : Show) (d : Decision) : Type 0 where
 pub record Verdicts : Type 0 where
   pub accepted-exactly :
       (s : Show) (d : Decision) → DecisionIs s d → (d .verdict ≡ verdict.Accepted) ↔ (ShowWithin s × Accepted (loadOf s))
-  pub told : (s : Show) (d : Decision) → DecisionIs s d → d .verdict ≡ verdict.Accepted → Told s d
+  pub told : (s : Show) (d : Decision) → DecisionIs s d → d .verdict ≡ verdict.Accepted → SmallestSet s d
   -- two answers that meet the statement are equal
   pub one-decision : (s : Show) (d e : Decision) → DecisionIs s d → DecisionIs s e → d ≡ e
   pub one-trial : (s : Show) (m : List ℕ) (a b : Trial) → TrialIs s m a → TrialIs s m b → a ≡ b

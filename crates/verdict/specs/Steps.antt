@@ -1,5 +1,5 @@
 -- What the private functions ask and answer.
-use Prim.Native.Nat.{ℕ, _+_, _*_, _/_, _%_, _≤_, _<_}
+use Prim.Native.Nat.{ℕ, _+_, _*_, _/_, _%_, _^_, _≤_, _<_}
 use mathlib.Core.Path.{_≡_}
 use Rattle.drive.specs.declared.Drive.{Drive}
 use Rattle.drive.specs.declared.Session.{Session}
@@ -17,14 +17,14 @@ use Rattle.verdict.specs.declared.round.Turn.the-variants.{Takes, Full}
 
 -- A round of counts that fit takes less than this ..
 abbrev pub roundMost : ℕ
-roundMost = 160000000000000
+roundMost = 16 * worstMost
 
 -- .. while any count of 32 bits takes this at most, and a round of such counts less than 2 ^ 58.
 abbrev pub timeMost : ℕ
 timeMost = 5000000 + 4294967295 * 4000000
 
 abbrev pub givenMost : ℕ
-givenMost = 288230376151711744
+givenMost = 2 ^ 58
 
 -- t in units of D
 abbrev pub spanOf : ℕ → ℕ → Span

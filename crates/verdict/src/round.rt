@@ -66,7 +66,7 @@ pub(crate) fn fits(block: u32, session: Session, count: u64) -> bool
     true
 }
 
-// U(n)
+// U(n). Within its limits a cost has an answer for every count.
 pub(crate) fn takes(cost: Cost, cylinder: u32, n: u32) -> u64
     requires { ⌜ Limited cost ⌝ }
     ensures { λ r. ⌜ (r ≡ worstTime cylinder cost n) × (r ≤ timeMost) ⌝ }
