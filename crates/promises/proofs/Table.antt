@@ -29,7 +29,7 @@ use Rattle.theory.proofs.Overload.{overload-refuses}
 use Rattle.theory.proofs.Shows.{show-sound}
 use Rattle.verdict.specs.declared.Answer.the-variants.{Fails}
 use Rattle.verdict.specs.Answers.{DecisionIs, accepted, no-set, TrialIs, fails, acceptedWith, setOf, timedAs}
-use Rattle.promises.specs.Numbers.{P1, P2, P3, P4, P5, P7, Table, X, Z, far, buffered, clip, slower, showOf, places, yes-with, no-set-found}
+use Rattle.promises.specs.Numbers.{Table, X, Z, far, buffered, clip, slower, showOf, places, no-set-found}
 
 -- ---- tests that compute
 
@@ -78,25 +78,6 @@ module _ (s : Show) (e : showCheck s ≡ Within) (k x : ℕ) (turned : turns (lo
       let w = check-within s e in
       no-set w (unfit-refuses (loadOf s) (show-sound s w) x not-past i (ltb→lt _ _ inside) (ltb→lt _ _ over))
 
--- ---- the table
-
-p1 : P1
-unfolding worstOf showCheck firstBelow counts? drive? layout? session? decLt costOf worstTime edges ceil
-p1 = record { one = refl; ten = refl; eleven = refl }
-
-empty : DecisionIs (showOf X []) (yes-with 0 [] [])
-unfolding showCheck firstBelow counts? drive? layout? session? costOf worstTime edges ceil turns sumTo need all both listed padded
-empty = settles (showOf X []) refl 0 0 refl tt tt
-
-p2 : P2
-unfolding showCheck firstBelow counts? drive? layout? session? costOf worstTime edges ceil turns sumTo need all both listed padded
-p2 =
-    record {
-      ample = settles (showOf X (clip ∷ [])) refl 1 42000 refl tt tt;
-      enough = settles (showOf X (buffered 102401 ∷ [])) refl 1 42000 refl tt tt;
-      short = spills (showOf X (buffered 102400 ∷ [])) refl 0 0 refl 0 tt tt;
-    }
-
 -- Counts whose session 0 is not ahead of its rate.
 behind :
     (s : Show) → showCheck s ≡ Within → (m : List ℕ) → T (ltb 0 (s .playing)) →
@@ -108,36 +89,6 @@ behind s e m some late =
     let h = g .augmenting 0 (ltb→lt _ _ some) in
     let l : setOf m 0 * unit (loadOf s) ≤ loadOf s .stream 0 .rate * roundTime (loadOf s) (setOf m) = leb→le _ _ late in
     omega arith)
-
-p3 : P3
-unfolding showCheck firstBelow counts? drive? layout? session? costOf worstTime edges ceil turns sumTo need all both listed padded
-p3 =
-    record {
-      twice = settles (showOf X (replicate 3 clip)) refl 2 156000 refl tt tt;
-      once = behind (showOf X (replicate 3 clip)) refl (places (replicate 3 1)) tt tt;
-    }
-
-p4 : P4
-unfolding showCheck firstBelow counts? drive? layout? session? costOf worstTime edges ceil turns sumTo need all both listed padded
-p4 =
-    record {
-      twice = settles (showOf far (replicate 2 clip)) refl 2 120000 refl tt tt;
-      once = behind (showOf far (replicate 2 clip)) refl (places (replicate 2 1)) tt tt;
-    }
-
-p5 : P5
-unfolding showCheck firstBelow counts? drive? layout? session? costOf worstTime edges ceil turns sumTo need all both listed padded
-p5 =
-    record {
-      ample = settles (showOf Z (replicate 9 clip)) refl 18 2790000 refl tt tt;
-      even = behind (showOf Z (replicate 9 clip)) refl (places (replicate 9 27)) tt tt;
-      enough = settles (showOf Z (replicate 9 (buffered 1484801))) refl 18 2790000 refl tt tt;
-      short = spills (showOf Z (replicate 9 (buffered 1484800))) refl 18 2790000 refl 0 tt tt;
-    }
-
-p7 : P7
-unfolding showCheck firstBelow counts? drive? layout? session? costOf worstTime edges ceil turns sumTo need all both listed padded
-p7 = record { under = settles (showOf Z (replicate 9 clip ++ (slower ∷ []))) refl 1970 309090000 refl tt tt }
 
 -- ---- p6
 
@@ -173,5 +124,37 @@ module _ (size : ℕ → ℕ) (within : (i : ℕ) → i < 10 → Between 1 (size
   p6-at =
       no-set ten-within (λ a. overload-refuses (loadOf ten) (show-sound ten ten-within) (le-refl 512000000000) (a .0) (a .1 .augmenting))
 
+-- ---- the table
+
 pub table : Table
-table = record { empty = empty; p1 = p1; p2 = p2; p3 = p3; p4 = p4; p5 = p5; p6 = record { hundred = p6-at }; p7 = p7 }
+unfolding worstOf showCheck firstBelow counts? drive? layout? session? decLt costOf worstTime edges ceil turns sumTo need all both listed padded
+table =
+    record {
+      empty = settles (showOf X []) refl 0 0 refl tt tt;
+      p1 = record { one = refl; ten = refl; eleven = refl };
+      p2 =
+          record {
+            ample = settles (showOf X (clip ∷ [])) refl 1 42000 refl tt tt;
+            enough = settles (showOf X (buffered 102401 ∷ [])) refl 1 42000 refl tt tt;
+            short = spills (showOf X (buffered 102400 ∷ [])) refl 0 0 refl 0 tt tt;
+          };
+      p3 =
+          record {
+            twice = settles (showOf X (replicate 3 clip)) refl 2 156000 refl tt tt;
+            once = behind (showOf X (replicate 3 clip)) refl (places (replicate 3 1)) tt tt;
+          };
+      p4 =
+          record {
+            twice = settles (showOf far (replicate 2 clip)) refl 2 120000 refl tt tt;
+            once = behind (showOf far (replicate 2 clip)) refl (places (replicate 2 1)) tt tt;
+          };
+      p5 =
+          record {
+            ample = settles (showOf Z (replicate 9 clip)) refl 18 2790000 refl tt tt;
+            even = behind (showOf Z (replicate 9 clip)) refl (places (replicate 9 27)) tt tt;
+            enough = settles (showOf Z (replicate 9 (buffered 1484801))) refl 18 2790000 refl tt tt;
+            short = spills (showOf Z (replicate 9 (buffered 1484800))) refl 18 2790000 refl 0 tt tt;
+          };
+      p6 = record { hundred = p6-at };
+      p7 = record { under = settles (showOf Z (replicate 9 clip ++ (slower ∷ []))) refl 1970 309090000 refl tt tt };
+    }

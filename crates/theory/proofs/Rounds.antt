@@ -5,11 +5,12 @@ use mathlib.Core.Path.{_≡_, _∙_, ap}
 use native.Mathlib.Omega.{arith}
 use native.Mathlib.Nat.{le-refl, le-trans, le-antisymm, lt-of-le-of-lt, mul-add, mul-left-comm, mul-le-mul, mul-le-mul-left, mul-le-mul-right, mul-add-div, div-lt-iff-lt-mul}
 use native.Mathlib.Decide.{decLe}
-use Rattle.theory.specs.Counts.{Load, Sound, unit, roundTime, Augmenting, Feasible, Good, Accepted, Smallest}
+use Rattle.drive.specs.Bound.{countMost}
+use Rattle.drive.proofs.Bound.{bound-grows}
+use Rattle.theory.specs.Counts.{Load, Sound, unit, roundTime, needed, Augmenting, Feasible, Good, Accepted, Smallest}
 use Rattle.theory.specs.Rounds.{need, asked, next, turns, Sustains, Fits, NotPast, LeastTime}
 use Rattle.theory.proofs.Sum.{sum-grows, sum-same}
 use Rattle.theory.proofs.Search.{least-of}
-use Rattle.drive.proofs.Bound.{bound-grows}
 
 -- N1: m D > R t exactly if m is at least need t.
 pub need-enough : (r D t m : ℕ) → 1 ≤ D → need r D t ≤ m → r * t < m * D
@@ -43,8 +44,8 @@ feasible-below l {m} {o} h f i b =
     let g = f i b in
     omega arith
 
--- A count that fits a buffer is below 2,097,152.
-pub count-capped : (m A Y B : ℕ) → 512 ≤ A → B ≤ 1073741824 → (m + 1) * A + Y ≤ B → m < 2097152
+-- A count that fits a buffer, with a block more, is below the most that a buffer holds.
+pub count-capped : (m A Y B : ℕ) → 512 ≤ A → B ≤ 1073741824 → (m + 1) * A + Y ≤ B → m < countMost
 count-capped m A Y B h g f =
     let p : (m + 1) * 512 ≤ (m + 1) * A = mul-le-mul-left (m + 1) h in omega arith
 
@@ -137,7 +138,7 @@ module _ (l : Load) (s : Sound l) where
   -- Where it asks a session for a count that does not fit, no set is good.
   pub unfit-refuses :
       (t : ℕ) → NotPast l t → (i : ℕ) → i < l .playing →
-      l .stream i .buffer < (asked l t i + 1) * l .block + l .stream i .cushion → Accepted l → ⊥
+      l .stream i .buffer < needed l i (asked l t i) → Accepted l → ⊥
   unfit-refuses t below i b u a =
       let f = feasible-below l (least-below t below (a .0) (a .1 .augmenting)) (a .1 .feasible) i b in omega arith
 

@@ -13,6 +13,7 @@ use Rattle.drive.specs.Bound.{worstTime, weight, spareOf}
 use Rattle.drive.specs.Worst.{costOf}
 use Rattle.theory.specs.Counts.{Stream, Load}
 
+-- A session, and a show, as the verdict sees them.
 abbrev pub streamOf : Show → ℕ → Stream
 streamOf s i =
     record {

@@ -9,7 +9,7 @@ use borrow.Author.Count.{below-more}
 use Rattle.drive.specs.declared.Show.{Show}
 use Rattle.drive.specs.declared.cost.Cost.{Cost}
 use Rattle.drive.specs.Limits.{ShowWithin, sessionAt}
-use Rattle.drive.specs.Bound.{Limited, worstTime}
+use Rattle.drive.specs.Bound.{countMost, Limited, worstTime}
 use Rattle.drive.specs.Lists.{listed, padded}
 use Rattle.drive.specs.Worst.{costOf, costsOf, noCost}
 use Rattle.drive.proofs.Costs.{cost-limited, costs-at}
@@ -33,7 +33,7 @@ use Rattle.verdict.proofs.Spans.{span-asked}
 -- ---- the counts that a time asks for
 
 -- What fits is of 32 bits.
-pub asked-few : (s : Show) → ShowWithin s → (t : ℕ) → Fits (loadOf s) t → (i : ℕ) → i < s .playing → asked (loadOf s) t i < 2097152
+pub asked-few : (s : Show) → ShowWithin s → (t : ℕ) → Fits (loadOf s) t → (i : ℕ) → i < s .playing → asked (loadOf s) t i < countMost
 asked-few s w t f i l =
     count-capped _ (s .drive .block) _ (sessionAt s i .buffer) (w .drive .block .low) (w .sessions i l .buffer .high) (f i l)
 

@@ -50,12 +50,15 @@ pub(crate) fn need(rate: u32, span: Span) -> u64
     whole + part + 1
 }
 
-// Whether the buffer takes the count and one block more. No buffer takes 2,097,152 blocks.
+// No buffer within the limits takes so many blocks and one more.
+const COUNT_MOST: u64 = 2_097_152;
+
+// Whether the buffer takes the count and one block more.
 pub(crate) fn fits(block: u32, session: Session, count: u64) -> bool
     requires { ⌜ (512 ≤ block) × (session .buffer ≤ 1073741824) ⌝ }
     ensures { λ r. ⌜ Tells r (Room block session count) ⌝ }
 {
-    if 2_097_152 <= count {
+    if COUNT_MOST <= count {
         return false;
     }
     let blocks = (count + 1) * (block as u64);

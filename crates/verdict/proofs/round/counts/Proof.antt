@@ -3,6 +3,7 @@ use Prim.Native.Nat.{_-_, _<_}
 use mathlib.Core.Path.{_≡_, _∙_}
 use native.Mathlib.Omega.{arith}
 use borrow.Author.Needs.{needs}
+use Rattle.drive.specs.Bound.{countMost}
 use Rattle.drive.proofs.Lists.{filled-none}
 use Rattle.theory.specs.Rounds.{asked}
 use Rattle.theory.specs.Shows.{loadOf}
@@ -40,7 +41,7 @@ right :
     c .need .result ≡ asked (loadOf (c .before .before .before .before .before .args .t1)) (c .before .before .before .before .before .args .t) (c .before .before .before .loop .i)
 right c = c .need .ensures ∙ span-asked _ _ _ _ (c .before .before .before .before .split .ensures)
 
-few : (c : tie.After-need Inv-loop μ-loop) → c .need .result < 2097152
+few : (c : tie.After-need Inv-loop μ-loop) → c .need .result < countMost
 few c = rw (right c) (asked-few _ (c .before .before .before .before .before .pre .0) _ (c .before .before .before .before .before .pre .1 .fits) _ (c .before .before .loop-test .taken))
 
 cast-counts : tie.Need-cast-counts Inv-loop μ-loop
