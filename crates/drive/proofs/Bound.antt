@@ -84,6 +84,7 @@ pub parts-capped : (N k : ℕ) (c : Cost) → Limited c → (n : ℕ) → n ≤ 
 parts-capped N k c l n h =
     record { blocks = mul-le-mul h (l .each); crossed = mul-le-mul (le-trans (edges-capped N n) h) (l .cross) }
 
+-- At most k blocks, of a limited cost.
 pub worst-below : (N k : ℕ) (c : Cost) → Limited c → (n : ℕ) → n ≤ k → worstTime N c n ≤ 5000000 + k * 4000000
 unfolding worstTime
 worst-below N k c l n h = omega (arith, parts-capped N k c l n h, l .fixed)
