@@ -6,7 +6,7 @@ use Rattle.drive.specs.declared.Session.{Session}
 use Rattle.drive.specs.declared.Show.{Show}
 use Rattle.drive.specs.declared.cost.Cost.{Cost}
 use Rattle.drive.specs.Bound.{worstTime, Limited, worstMost}
-use Rattle.theory.specs.Counts.{Load, Accepted, roundTime, needed}
+use Rattle.theory.specs.Counts.{Load, Feasible, Accepted, roundTime}
 use Rattle.theory.specs.Rounds.{need, asked, Fits, LeastTime}
 use Rattle.theory.specs.Shows.{loadOf}
 use Rattle.verdict.specs.Answers.{timesOf}
@@ -83,5 +83,5 @@ pub record Held (A : ℕ) (x : Session) (p : Span) (m : ℕ) : Type 0 where
   pub ahead : askedOf (x .rate) p ≤ m
 
 pub record Holds (l : Load) (t : ℕ) (m : ℕ → ℕ) : Type 0 where
-  pub room : (i : ℕ) → i < l .playing → needed l i (m i) ≤ l .stream i .buffer
+  pub room : Feasible l m
   pub ahead : (i : ℕ) → i < l .playing → asked l t i ≤ m i
