@@ -28,7 +28,7 @@ sets-over : (vs b : List ℕ) (at : ℕ) → at + length vs ≤ length b → set
 unfolding over
 sets-over vs b at h = sets-eq vs b at h ∙ append-assoc (take at b) vs (drop (at + length vs) b)
 
-one-over : (b : List ℕ) (at p : ℕ) → at + 1 ≤ length b → set b at p ≡ over b at (p ∷ [])
+pub one-over : (b : List ℕ) (at p : ℕ) → at + 1 ≤ length b → set b at p ≡ over b at (p ∷ [])
 one-over b at p h = sets-over (p ∷ []) b at h
 
 pub two-over : (b : List ℕ) (at p q : ℕ) → at + 2 ≤ length b → set (set b at p) (at + 1) q ≡ over b at (p ∷ q ∷ [])

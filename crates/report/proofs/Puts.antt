@@ -1,0 +1,86 @@
+-- Laws of text put into a buffer, piece after piece. Assumes nothing.
+use mathlib.Core.Path.{_≡_, refl, sym, ap, subst, _∙_}
+use mathlib.Core.List.{List, [], _∷_, _++_}
+use Prim.Native.Nat.{ℕ, _+_, _≤_, _<_}
+use native.Mathlib.Nat.{add-zero, le-refl}
+use native.Mathlib.Numerals.{add-one}
+use native.Mathlib.Decide.{le-ind}
+use native.Mathlib.Omega.{arith}
+use lib.ListN.{length, set, length-append}
+use Rattle.showfile.specs.Bytes.{over}
+use Rattle.showfile.proofs.ByteLaws.{one-over, over-nothing, over-then}
+use Rattle.report.specs.Steps.{Room, Put}
+
+pub put-none : (was : List ℕ) (at : ℕ) → Put was at [] was at
+put-none was at = record { bytes = over-nothing was at; upto = sym (add-zero at) }
+
+pub put-one : (was : List ℕ) (at b : ℕ) → Room was at (b ∷ []) → Put was at (b ∷ []) (set was at b) (at + 1)
+put-one was at b room = record { bytes = one-over was at b (room .fits); upto = refl }
+
+-- the same text by another name
+pub put-as : {was after t u : List ℕ} {at next : ℕ} → t ≡ u → Put was at t after next → Put was at u after next
+put-as {was} {after} {at = at} {next = next} e p = subst (λ (x : List ℕ). Put was at x after next) e p
+
+pub room-as : {was t u : List ℕ} {at : ℕ} → t ≡ u → Room was at t → Room was at u
+room-as {was} {at = at} e r = subst (λ (x : List ℕ). Room was at x) e r
+
+-- One text and then another: there is room for the first, after it for the second, and both are then put.
+module _ {was : List ℕ} {at : ℕ} (t u : List ℕ) (room : Room was at (t ++ u)) where
+  pub room-first : Room was at t
+  room-first = record { fits = (let r = room .fits in omega (arith, length-append t u)) }
+
+  module _ {mid : List ℕ} {to : ℕ} (p : Put was at t mid to) where
+    pub room-then : length mid ≡ length was → Room mid to u
+    room-then k =
+        record { fits = (let r = room .fits in let i = p .upto in omega (arith, length-append t u)) }
+
+    pub put-then : {after : List ℕ} {next : ℕ} → Put mid to u after next → Put was at (t ++ u) after next
+    put-then {after} {next} q =
+        let r = room .fits in
+        let i = p .upto in
+        let j = q .upto in
+        record {
+          bytes = over-then was at t to u (p .bytes) (q .bytes) (sym i) (omega (arith, length-append t u));
+          upto = omega (arith, length-append t u);
+        }
+
+-- Pieces put one after the other: those below i so far, n in all.
+pub record PutTo (was : List ℕ) (at : ℕ) (so-far : ℕ → List ℕ) (n : ℕ) (out : List ℕ) (i next : ℕ) : Type 0 where
+  pub inside : i ≤ n
+  pub same : length out ≡ length was
+  pub put : Put was at (so-far i) out next
+
+module _ (was : List ℕ) (at : ℕ) (so-far : ℕ → List ℕ) (n : ℕ) where
+  pub pieces-begun : so-far 0 ≡ [] → PutTo was at so-far n was 0 at
+  pieces-begun e = record { inside = omega arith; same = refl; put = put-as (sym e) (put-none was at) }
+
+  pub pieces-ended : (out : List ℕ) (i next : ℕ) → PutTo was at so-far n out i next → n ≤ i → Put was at (so-far n) out next
+  pieces-ended out i next h l = put-as (ap so-far (let a = h .inside in omega arith)) (h .put)
+
+  module _ (piece : ℕ → List ℕ) (more : (i : ℕ) → i < n → so-far (i + 1) ≡ so-far i ++ piece i) where
+    longer : (i : ℕ) → i ≤ n → length (so-far i) ≤ length (so-far n)
+    longer i h =
+        le-ind (λ k. k ≤ n → length (so-far i) ≤ length (so-far k)) (λ g. le-refl _)
+        (λ k l p g.
+          (let e : length (so-far (k + 1)) ≡ length (so-far k) + length (piece k) =
+          ap length (more k g) ∙ length-append (so-far k) (piece k) in
+          let q = p (omega arith) in
+          rw (← add-one k) (omega arith)))
+        n h (le-refl n)
+
+    module _ (room : Room was at (so-far n)) (out : List ℕ) (i next : ℕ) (h : PutTo was at so-far n out i next) (l : i < n) where
+      room-up : Room was at (so-far i ++ piece i)
+      room-up =
+          room-as (more i l) (record { fits = (let r = room .fits in let g = longer (i + 1) (omega arith) in omega arith) })
+
+      pub piece-room : Room out next (piece i)
+      piece-room = room-then (so-far i) (piece i) room-up (h .put) (h .same)
+
+      pub piece-put :
+          (after : List ℕ) (to : ℕ) → length after ≡ length out → Put out next (piece i) after to → PutTo was at so-far n after (i + 1) to
+      piece-put after to k p =
+          record {
+            inside = omega arith;
+            same = k ∙ h .same;
+            put = put-as (sym (more i l)) (put-then (so-far i) (piece i) room-up (h .put) p);
+          }

@@ -1,0 +1,40 @@
+-- What a file is answered, and what the lent buffer then holds: docs/RULES.md, section 8.
+use Prim.Native.Nat.{ℕ}
+use mathlib.Core.Path.{_≡_}
+use mathlib.Core.List.{List}
+use lib.ListN.{length}
+use Rattle.drive.specs.declared.refusal.Refusal.{Refusal}
+use Rattle.drive.specs.declared.refusal.Refusal.the-variants.{NoSet}
+use Rattle.drive.specs.declared.refusal.Check.{Check}
+use Rattle.drive.specs.declared.refusal.Check.the-variants.{Within, Refused}
+use Rattle.showfile.specs.declared.Written.{Written}
+use Rattle.showfile.specs.Checks.{roomCheck}
+use Rattle.showfile.specs.Answers.{readOf, written, writtenOver}
+use Rattle.theory.specs.Counts.{Load, Accepted, Smallest}
+use Rattle.theory.specs.Shows.{loadOf}
+use Rattle.report.specs.Text.{refusedText, acceptedText}
+
+-- the show in a file, as the verdict sees it
+abbrev pub loadIn : List ℕ → Load
+loadIn f = loadOf (readOf f .show)
+
+-- The text for a file: the smallest set of its show; 8 where there is none; 1 to 7 where it is no show's file.
+pub data TextIs (f : List ℕ) : List ℕ → Type 0 where
+  granted : (m : ℕ → ℕ) → readOf f .check ≡ Within → Smallest (loadIn f) m → TextIs f (acceptedText (loadIn f) m)
+  eight : readOf f .check ≡ Within → (Accepted (loadIn f) → ⊥) → TextIs f (refusedText NoSet)
+  unread : (w : Refusal) → readOf f .check ≡ Refused w → TextIs f (refusedText w)
+
+-- no text has more bytes than this
+abbrev pub textMost : ℕ
+textMost = 594
+
+-- 16: a buffer too short for the longest text
+abbrev pub reportCheck : List ℕ → Check
+reportCheck b = roomCheck textMost (length b)
+
+-- A report on the file f into the buffer b: the text from the first byte on, every later byte as it was. Refused, every byte as it was.
+pub record ReportIs (f b : List ℕ) (r : Written) (after : List ℕ) : Type 0 where
+  pub text : List ℕ
+  pub told : TextIs f text
+  pub answer : r ≡ written (reportCheck b) (length text)
+  pub bytes : after ≡ writtenOver (reportCheck b) text b

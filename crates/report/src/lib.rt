@@ -1,0 +1,107 @@
+// The calculator's answer to a show file, as text in a lent buffer. docs/RULES.md, section 8.
+mod text;
+
+ghost use mathlib.Core.Path.{_≡_};
+ghost use Prim.Native.Nat.{_+_, _*_, _≤_};
+ghost use lib.ListN.{length};
+ghost use Rattle.theory.specs.Counts.{roundTime};
+ghost use Rattle.theory.specs.Shows.{loadOf};
+ghost use Rattle.verdict.specs.Answers.{setOf};
+ghost use Rattle.report.specs.Text.{refusedText, sessionLines, acceptedText};
+ghost use Rattle.report.specs.Answers.{ReportIs, textMost};
+ghost use Rattle.report.specs.Steps.{Room, Put, Timed, Texted};
+use crate::text::put_four;
+use crate::text::put_two;
+use drive::Show;
+use drive::refusal::Check;
+use drive::refusal::Refusal;
+use showfile::Written;
+use verdict::Decision;
+use verdict::Verdict;
+
+// No text is longer.
+pub const TEXT_MOST: usize = 594;
+
+fn put_refusal(out: &mut [u8], why: Refusal) -> usize
+    requires { ⌜ textMost ≤ length (now out) ⌝ }
+    ensures { λ r. ⌜ Put (now (out .entry)) 0 (refusedText why) (now (out .exit)) r ⌝ }
+{
+    let told = why.told();
+    put_two(out, 0, b"refused ", told.number as u64, told.place as u64)
+}
+
+// The smallest buffer that takes the count: what is played from is kept beside a block that comes in.
+fn smallest_buffer(count: u32, block: u32, cushion: u32) -> u64
+    ensures { λ r. ⌜ r ≡ (count + 1) * block + cushion ⌝ }
+{
+    let blocks = (count as u64 + 1) * block as u64;
+    blocks + cushion as u64
+}
+
+// A line for each session.
+fn put_sessions(out: &mut [u8], at: usize, show: Show, counts: [u32; 16], times: [u64; 16]) -> usize
+    requires { ⌜ Timed show counts times ⌝ }
+    requires { ⌜ Room (now out) at (sessionLines (loadOf show) (setOf counts) (show .playing)) ⌝ }
+    ensures { λ r. ⌜ Put (now (out .entry)) at (sessionLines (loadOf show) (setOf counts) (show .playing)) (now (out .exit)) r ⌝ }
+{
+    let sessions = show.sessions;
+    let mut next = at;
+    let mut i = 0;
+    while i < show.playing {
+        let count = counts[i];
+        let session = sessions[i];
+        let buffer = smallest_buffer(count, show.drive.block, session.cushion);
+        next = put_four(out, next, i as u64, count as u64, times[i], buffer);
+        i += 1;
+    }
+    next
+}
+
+fn put_accepted(out: &mut [u8], show: Show, decision: Decision) -> usize
+    requires { ⌜ Timed show (decision .counts) (decision .times) ⌝ }
+    requires { ⌜ decision .round ≡ roundTime (loadOf show) (setOf (decision .counts)) ⌝ }
+    requires { ⌜ Room (now out) 0 (acceptedText (loadOf show) (setOf (decision .counts))) ⌝ }
+    ensures { λ r. ⌜ Put (now (out .entry)) 0 (acceptedText (loadOf show) (setOf (decision .counts))) (now (out .exit)) r ⌝ }
+{
+    let counts = decision.counts;
+    let times = decision.times;
+    let next = put_two(out, 0, b"accepted ", show.playing as u64, decision.round);
+    put_sessions(out, next, show, counts, times)
+}
+
+// The text for a file, into a buffer that takes every text.
+fn put_text(file: &[u8], out: &mut [u8]) -> usize
+    requires { ⌜ textMost ≤ length (now out) ⌝ }
+    ensures { λ r. ⌜ Texted (now (file .entry)) (now (out .entry)) (now (out .exit)) r ⌝ }
+{
+    let got = showfile::read(file);
+    let check = got.check;
+    if let Check::Refused(why) = check {
+        return put_refusal(out, why);
+    }
+    let show = got.show;
+    let decision = verdict::decide(show);
+    let verdict = decision.verdict;
+    if let Verdict::Refused(why) = verdict {
+        return put_refusal(out, why);
+    }
+    put_accepted(out, show, decision)
+}
+
+// Puts the text from the buffer's first byte on and answers its length; or 16, where the buffer would not take every text.
+pub fn report(file: &[u8], buffer: &mut [u8]) -> Written
+    ensures { λ r. ⌜ ReportIs (now (file .entry)) (now (buffer .entry)) r (now (buffer .exit)) ⌝ }
+    ensures { λ r. ⌜ r .len ≤ length (now (buffer .exit)) ⌝ }
+{
+    if buffer.len() < TEXT_MOST {
+        return Written {
+            check: Check::Refused(Refusal::BufferShort),
+            len: 0,
+        };
+    }
+    let len = put_text(file, buffer);
+    Written {
+        check: Check::Within,
+        len,
+    }
+}
