@@ -7,7 +7,7 @@ ghost use lib.ListN.{length};
 ghost use Rattle.theory.specs.Counts.{roundTime};
 ghost use Rattle.theory.specs.Shows.{loadOf};
 ghost use Rattle.verdict.specs.Answers.{setOf};
-ghost use Rattle.report.specs.Text.{refusedText, sessionLines, acceptedText};
+ghost use Rattle.report.specs.Text.{fourLine, refusedText, sessionLines, acceptedText};
 ghost use Rattle.report.specs.Answers.{ReportIs, textMost};
 ghost use Rattle.report.specs.Steps.{Room, Put, Timed, Texted};
 use crate::text::put_four;
@@ -30,12 +30,14 @@ fn put_refusal(out: &mut [u8], why: Refusal) -> usize
     put_two(out, 0, b"refused ", told.number as u64, told.place as u64)
 }
 
-// The smallest buffer that takes the count: what is played from is kept beside a block that comes in.
-fn smallest_buffer(count: u32, block: u32, cushion: u32) -> u64
-    ensures { λ r. ⌜ r ≡ (count + 1) * block + cushion ⌝ }
+// The line of session i: its number, its count, U of the count, and the smallest buffer that takes it.
+fn put_session(out: &mut [u8], at: usize, i: usize, count: u32, time: u64, block: u32, cushion: u32) -> usize
+    requires { ⌜ Room (now out) at (fourLine i count time ((count + 1) * block + cushion)) ⌝ }
+    ensures { λ r. ⌜ Put (now (out .entry)) at (fourLine i count time ((count + 1) * block + cushion)) (now (out .exit)) r ⌝ }
 {
     let blocks = (count as u64 + 1) * block as u64;
-    blocks + cushion as u64
+    let buffer = blocks + cushion as u64;
+    put_four(out, at, i as u64, count as u64, time, buffer)
 }
 
 // A line for each session.
@@ -48,10 +50,8 @@ fn put_sessions(out: &mut [u8], at: usize, show: Show, counts: [u32; 16], times:
     let mut next = at;
     let mut i = 0;
     while i < show.playing {
-        let count = counts[i];
         let session = sessions[i];
-        let buffer = smallest_buffer(count, show.drive.block, session.cushion);
-        next = put_four(out, next, i as u64, count as u64, times[i], buffer);
+        next = put_session(out, next, i, counts[i], times[i], show.drive.block, session.cushion);
         i += 1;
     }
     next

@@ -1,75 +1,75 @@
+-- A line a turn: what was put so far are the lines of the sessions before. The measure is how many are left. Assumes nothing.
+use mathlib.Core.Path.{sym}
+use Prim.Native.Nat.{_-_}
+use native.Mathlib.Omega.{arith}
+use Rattle.theory.specs.Shows.{loadOf}
+use Rattle.verdict.specs.Answers.{setOf}
+use Rattle.report.specs.Text.{sessionLine, sessionLines}
+use Rattle.report.proofs.Puts.{PutTo, pieces-begun, piece-room, piece-put, pieces-ended, put-as, room-as}
+use Rattle.report.proofs.Texts.{lines-none, lines-more, line-made}
 use Rattle.report.proofs.put_sessions.Statement.{statement}
 use Rattle.report.proofs.put_sessions.Tie as tie
-use Rattle.report.proofs.put_sessions.Reads as reads
-use Rattle.report.proofs.put_sessions.Lts as lts
-use Rattle.report.proofs.smallest_buffer.Reads as smallest-buffer-reads
-use Rattle.report.proofs.text.put_four.Reads as put-four-reads
 
 abbrev Inv-loop : tie.InvT-loop
-Inv-loop out₀ at show counts times sessions next₀ i₀ out next i = ?
+Inv-loop out₀ at show counts times sessions next₀ i₀ out next i = PutTo out₀ at (sessionLines (loadOf show) (setOf counts)) (show .playing) out i next
 
 abbrev μ-loop : tie.MeasureT-loop
-μ-loop out₀ at show counts times sessions next₀ i₀ out next i = ?
+μ-loop out₀ at show counts times sessions next₀ i₀ out next i = show .playing - i
 
--- src/lib.rt:50:5
 loop-holds : tie.Need-loop-holds Inv-loop μ-loop
-loop-holds c = ?
+loop-holds c = pieces-begun _ _ _ _ (lines-none _ _)
 
--- src/lib.rt:51:21
-mul-count : tie.Need-mul-count Inv-loop μ-loop
-mul-count c = ?
-
--- src/lib.rt:51:21
-array-read-count : tie.Need-array-read-count Inv-loop μ-loop
-array-read-count c = ?
-
--- src/lib.rt:52:23
 mul-session : tie.Need-mul-session Inv-loop μ-loop
-mul-session c = ?
+mul-session c = record { fits = (let w = c .before .before .before .before .before .pre .0 .within .counts .sessions in omega arith) }
 
--- src/lib.rt:52:23
 array-copy-out-session : tie.Need-array-copy-out-session Inv-loop μ-loop
-array-copy-out-session c = ?
+array-copy-out-session c = let w = c .before .before .before .before .before .pre .0 .within .counts .sessions in omega arith
 
--- src/lib.rt:53:13
-smallest-buffer-requires : tie.Need-smallest-buffer-requires Inv-loop μ-loop
-smallest-buffer-requires c κs = ?
+mul-put-session : tie.Need-mul-put-session Inv-loop μ-loop
+mul-put-session c = record { fits = (let w = c .before .before .before .before .before .before .before .pre .0 .within .counts .sessions in omega arith) }
 
--- src/lib.rt:54:46
-cast-put-four : tie.Need-cast-put-four Inv-loop μ-loop
-cast-put-four c = ?
+array-read-put-session : tie.Need-array-read-put-session Inv-loop μ-loop
+array-read-put-session c = let w = c .before .before .before .before .before .before .before .pre .0 .within .counts .sessions in omega arith
 
--- src/lib.rt:54:60
-mul-put-four : tie.Need-mul-put-four Inv-loop μ-loop
-mul-put-four c = ?
+mul-put-session-2 : tie.Need-mul-put-session-2 Inv-loop μ-loop
+mul-put-session-2 c = record { fits = (let w = c .before .before .before .before .before .before .before .pre .0 .within .counts .sessions in omega arith) }
 
--- src/lib.rt:54:60
-array-read-put-four : tie.Need-array-read-put-four Inv-loop μ-loop
-array-read-put-four c = ?
+array-read-put-session-2 : tie.Need-array-read-put-session-2 Inv-loop μ-loop
+array-read-put-session-2 c = let w = c .before .before .before .before .before .before .before .pre .0 .within .counts .sessions in omega arith
 
--- src/lib.rt:54:9
-put-four-requires : tie.Need-put-four-requires Inv-loop μ-loop
-put-four-requires c κs = ?
+put-session-requires : tie.Need-put-session-requires Inv-loop μ-loop
+put-session-requires c κs =
+    let a = c .before .before .before .before .before .before .before .args in
+    let l = c .before .before .before .before .loop in
+    let m = setOf (a .t4) in
+    room-as (sym (line-made (a .show) (a .t4) (a .t5) (c .before .before .before .before .before .before .before .pre .0) (l .i) (omega arith)))
+    (piece-room (a .out .now) (a .at) (sessionLines (loadOf (a .show)) m) (a .show .playing) (sessionLine (loadOf (a .show)) m)
+    (λ i h. lines-more (loadOf (a .show)) m i) (c .before .before .before .before .before .before .before .pre .1) (l .out) (l .i) (l .next) (l .inv) (omega arith))
 
--- src/lib.rt:55:9
 add-i : tie.Need-add-i Inv-loop μ-loop
-add-i c = ?
+add-i c = record { fits = (let w = c .before .before .before .before .before .before .before .before .before .before .pre .0 .within .counts .sessions in omega arith) }
 
--- src/lib.rt:50:5
 loop-less : tie.Need-loop-less Inv-loop μ-loop
-loop-less c = ?
+loop-less c = omega arith
 
--- src/lib.rt:50:5
 loop-again : tie.Need-loop-again Inv-loop μ-loop
-loop-again c = ?
+loop-again c =
+    let a = c .before .before .before .before .before .before .before .before .before .before .args in
+    let l = c .before .before .before .before .before .before .before .loop in
+    let m = setOf (a .t4) in
+    let p = c .before .before .put-session in
+    piece-put (a .out .now) (a .at) (sessionLines (loadOf (a .show)) m) (a .show .playing) (sessionLine (loadOf (a .show)) m)
+    (λ i h. lines-more (loadOf (a .show)) m i) (c .before .before .before .before .before .before .before .before .before .before .pre .1) (l .out) (l .i) (l .next) (l .inv) (omega arith) (p .last .0) (p .result) (p .kept .0)
+    (put-as (line-made (a .show) (a .t4) (a .t5) (c .before .before .before .before .before .before .before .before .before .before .pre .0) (l .i) (omega arith)) (p .ensures))
 
--- src/lib.rt:42:1
 same-length : tie.Need-same-length Inv-loop μ-loop
-same-length c = ?
+same-length c = c .before .before .loop .inv .same
 
--- src/lib.rt:42:1
 returns : tie.Need-returns Inv-loop μ-loop
-returns c = ?
+returns c =
+    let a = c .before .before .before .before .before .args in
+    let l = c .before .before .loop in
+    pieces-ended (a .out .now) (a .at) _ _ (l .out) (l .i) (l .next) (l .inv) (omega arith)
 
 pub put-sessions-spec : {M : Type 1} → statement M
 put-sessions-spec =
@@ -78,15 +78,13 @@ put-sessions-spec =
     Inv-loop
     μ-loop
     loop-holds
-    mul-count
-    array-read-count
     mul-session
     array-copy-out-session
-    smallest-buffer-requires
-    cast-put-four
-    mul-put-four
-    array-read-put-four
-    put-four-requires
+    mul-put-session
+    array-read-put-session
+    mul-put-session-2
+    array-read-put-session-2
+    put-session-requires
     add-i
     loop-less
     loop-again
