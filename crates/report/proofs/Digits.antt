@@ -1,5 +1,5 @@
 -- Laws of a number's digits. Assumes nothing.
-use mathlib.Core.Path.{_≡_, sym, ap, _∙_, subst}
+use mathlib.Core.Path.{_≡_, refl, sym, ap, _∙_, subst}
 use mathlib.Core.Logic.{if-pos, if-neg}
 use mathlib.Core.List.{List, [], _∷_, _++_}
 use Prim.Native.Nat.{ℕ, zero, suc, _+_, _/_, _%_, _<_, _≤_, _^_}
@@ -9,6 +9,10 @@ use native.Mathlib.Omega.{arith}
 use lib.ListN.{length, length-append}
 use lib.Dec.{lit<}
 use Rattle.report.specs.Text.{digits, decimal}
+
+digits-none : (n : ℕ) → digits 0 n ≡ []
+unfolding digits
+digits-none n = refl
 
 digits-last : (f n : ℕ) → n < 10 → digits (suc f) n ≡ (48 + n) ∷ []
 unfolding digits
@@ -20,6 +24,14 @@ digits-more f n h = if-neg (decLt n 10) h _ _
 
 tenth : (k n : ℕ) → n < 10 ^ suc k → n / 10 < 10 ^ k
 tenth k n h = div-lt-iff-lt-mul (lit< tt) .1 (subst (λ (x : ℕ). n < x) (pow-suc 10 k) h)
+
+digits-most : (f n : ℕ) → length (digits f n) ≤ f
+digits-most zero n = omega (arith, ap length (digits-none n))
+digits-most (suc f) n = from (digits-most f (n / 10)) (decLt n 10)
+  where
+    from : length (digits f (n / 10)) ≤ f → Dec (n < 10) → length (digits (suc f) n) ≤ suc f
+    from i (yes l) = rw (digits-last f n l) (omega arith)
+    from i (no l) = rw (digits-more f n l) (simp length-append (omega arith))
 
 -- A number below 10 ^ k has k digits at most, for k of at least 1.
 digits-few : (f k n : ℕ) → n < 10 ^ suc k → Dec (n < 10) → length (digits f n) ≤ suc k
@@ -53,3 +65,7 @@ decimal-more n b h =
 pub decimal-few : (k n : ℕ) → n < 10 ^ suc k → length (decimal n) ≤ suc k
 unfolding decimal
 decimal-few k n h = digits-few 20 k n h (decLt n 10)
+
+pub decimal-most : (n : ℕ) → length (decimal n) ≤ 20
+unfolding decimal
+decimal-most n = digits-most 20 n

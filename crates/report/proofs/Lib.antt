@@ -1,3 +1,5 @@
 pub mod Puts
 pub mod Digits
 pub mod Texts
+pub mod Sizes
+pub mod Reports

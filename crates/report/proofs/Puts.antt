@@ -62,10 +62,10 @@ module _ (was : List ℕ) (at : ℕ) (so-far : ℕ → List ℕ) (n : ℕ) where
     longer i h =
         le-ind (λ k. k ≤ n → length (so-far i) ≤ length (so-far k)) (λ g. le-refl _)
         (λ k l p g.
-          (let e : length (so-far (k + 1)) ≡ length (so-far k) + length (piece k) =
-          ap length (more k g) ∙ length-append (so-far k) (piece k) in
-          let q = p (omega arith) in
-          rw (← add-one k) (omega arith)))
+        (let e : length (so-far (k + 1)) ≡ length (so-far k) + length (piece k) =
+        ap length (more k g) ∙ length-append (so-far k) (piece k) in
+        let q = p (omega arith) in
+        rw (← add-one k) (omega arith)))
         n h (le-refl n)
 
     module _ (room : Room was at (so-far n)) (out : List ℕ) (i next : ℕ) (h : PutTo was at so-far n out i next) (l : i < n) where

@@ -1,14 +1,12 @@
 -- What a file is answered, and what the lent buffer then holds: docs/RULES.md, section 8.
-use Prim.Native.Nat.{ℕ}
+use Prim.Native.Nat.{ℕ, _≤_, _<_}
 use mathlib.Core.Path.{_≡_}
 use mathlib.Core.List.{List}
 use lib.ListN.{length}
 use Rattle.drive.specs.declared.refusal.Refusal.{Refusal}
-use Rattle.drive.specs.declared.refusal.Refusal.the-variants.{NoSet}
-use Rattle.drive.specs.declared.refusal.Check.{Check}
+use Rattle.drive.specs.declared.refusal.Refusal.the-variants.{NoSet, BufferShort}
 use Rattle.drive.specs.declared.refusal.Check.the-variants.{Within, Refused}
 use Rattle.showfile.specs.declared.Written.{Written}
-use Rattle.showfile.specs.Checks.{roomCheck}
 use Rattle.showfile.specs.Answers.{readOf, written, writtenOver}
 use Rattle.theory.specs.Counts.{Load, Accepted, Smallest}
 use Rattle.theory.specs.Shows.{loadOf}
@@ -28,13 +26,8 @@ pub data TextIs (f : List ℕ) : List ℕ → Type 0 where
 abbrev pub textMost : ℕ
 textMost = 594
 
--- 16: a buffer too short for the longest text
-abbrev pub reportCheck : List ℕ → Check
-reportCheck b = roomCheck textMost (length b)
-
--- A report on the file f into the buffer b: the text from the first byte on, every later byte as it was. Refused, every byte as it was.
-pub record ReportIs (f b : List ℕ) (r : Written) (after : List ℕ) : Type 0 where
-  pub text : List ℕ
-  pub told : TextIs f text
-  pub answer : r ≡ written (reportCheck b) (length text)
-  pub bytes : after ≡ writtenOver (reportCheck b) text b
+-- A report on the file f into the buffer b. The text stands from the first byte on, and every later byte is as it was. A buffer too
+-- short for the longest text is 16, whatever the file: nothing is put, and every byte is as it was.
+pub data ReportIs (f b : List ℕ) : Written → List ℕ → Type 0 where
+  told : (t : List ℕ) → TextIs f t → textMost ≤ length b → ReportIs f b (written Within (length t)) (writtenOver Within t b)
+  short : length b < textMost → ReportIs f b (written (Refused BufferShort) 0) b

@@ -31,7 +31,15 @@ fn put_refusal(out: &mut [u8], why: Refusal) -> usize
 }
 
 // The line of session i: its number, its count, U of the count, and the smallest buffer that takes it.
-fn put_session(out: &mut [u8], at: usize, i: usize, count: u32, time: u64, block: u32, cushion: u32) -> usize
+fn put_session(
+    out: &mut [u8],
+    at: usize,
+    i: usize,
+    count: u32,
+    time: u64,
+    block: u32,
+    cushion: u32,
+) -> usize
     requires { ⌜ Room (now out) at (fourLine i count time ((count + 1) * block + cushion)) ⌝ }
     ensures { λ r. ⌜ Put (now (out .entry)) at (fourLine i count time ((count + 1) * block + cushion)) (now (out .exit)) r ⌝ }
 {
@@ -51,7 +59,15 @@ fn put_sessions(out: &mut [u8], at: usize, show: Show, counts: [u32; 16], times:
     let mut i = 0;
     while i < show.playing {
         let session = sessions[i];
-        next = put_session(out, next, i, counts[i], times[i], show.drive.block, session.cushion);
+        next = put_session(
+            out,
+            next,
+            i,
+            counts[i],
+            times[i],
+            show.drive.block,
+            session.cushion,
+        );
         i += 1;
     }
     next

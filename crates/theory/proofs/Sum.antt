@@ -42,6 +42,12 @@ unfolding sumTo
 sum-times f k zero = sym (zero-mul k)
 sum-times f k (suc n) = ap (λ (x : ℕ). x + f n * k) (sum-times f k n) ∙ sym (add-mul (sumTo f n) (f n) k)
 
+pub sum-capped : (f : ℕ → ℕ) (k n : ℕ) → ((i : ℕ) → i < n → f i ≤ k) → sumTo f n ≤ n * k
+unfolding sumTo
+sum-capped f k zero h = omega arith
+sum-capped f k (suc n) h =
+    let p = sum-capped f k n (λ i l. h i (omega arith)) in let q = h n (omega arith) in omega (arith, add-mul n 1 k)
+
 -- A sum over some of the places below k, in their order, is at most the sum over all.
 pub sum-part :
     (f : ℕ → ℕ) (e : ℕ → ℕ) (n k : ℕ) → ((i : ℕ) → i < n → e i < k) → ((i j : ℕ) → i < j → j < n → e i < e j) →

@@ -13,7 +13,7 @@ use Rattle.verdict.specs.declared.Decision.{Decision}
 use Rattle.verdict.specs.Answers.{DecisionIs, accepted, no-set, outside, acceptedWith}
 use Rattle.verdict.proofs.Once.{within-outside}
 
-accepted-refused : {X : Type 0} {w : Refusal} → verdict.Refused w ≡ verdict.Accepted → X
+pub accepted-refused : {X : Type 0} {w : Refusal} → verdict.Refused w ≡ verdict.Accepted → X
 accepted-refused e = let z : _≡_ {A = ℕ} 0 1 = cc in absurd (let f : ⊥ = omega arith in f)
 
 -- What an accepted decision holds.

@@ -1,34 +1,36 @@
+-- One line, which every buffer for every text takes. Assumes nothing.
+use mathlib.Core.Path.{sym}
+use native.Mathlib.Omega.{arith}
+use Rattle.report.proofs.Puts.{room-as, put-as}
+use Rattle.report.proofs.Texts.{refusal-made}
+use Rattle.report.proofs.Sizes.{refused-few}
 use borrow.Author.Needs.{needs}
 use Rattle.report.proofs.put_refusal.Statement.{statement}
 use Rattle.report.proofs.put_refusal.Tie as tie
-use Rattle.report.proofs.put_refusal.Reads as reads
-use Rattle.report.proofs.put_refusal.Lts as lts
-use Rattle.drive.proofs.refusal.Refusal.told.Reads as told-reads
-use Rattle.report.proofs.text.put_two.Reads as put-two-reads
 
--- src/lib.rt:29:9
 told-requires : tie.Need-told-requires
 told-requires c κs = search needs
 
--- src/lib.rt:30:21
 slice-aggregate-put-two : tie.Need-slice-aggregate-put-two
 slice-aggregate-put-two c = search needs
 
--- src/lib.rt:30:34
 cast-put-two : tie.Need-cast-put-two
 cast-put-two c = search needs
 
--- src/lib.rt:30:5
 put-two-requires : tie.Need-put-two-requires
-put-two-requires c κs = ?
+put-two-requires c κs =
+    let a = c .before .before .before .before .before .args in
+    let t = c .before .before .before .told in
+    room-as (refusal-made (a .why) (t .result) (t .ensures)) (record { fits = omega (arith, refused-few (a .why), c .before .before .before .before .before .pre) })
 
--- src/lib.rt:25:1
 same-length : tie.Need-same-length
 same-length c = search needs
 
--- src/lib.rt:25:1
 returns : tie.Need-returns
-returns c = ?
+returns c =
+    let a = c .before .before .before .before .before .before .before .before .args in
+    let t = c .before .before .before .before .before .before .told in
+    put-as (sym (refusal-made (a .why) (t .result) (t .ensures))) (c .before .before .put-two .ensures)
 
 pub put-refusal-spec : {M : Type 1} → statement M
 put-refusal-spec =

@@ -50,9 +50,10 @@ put-decimal-returns t c = put-as (sym (decimal-last (c .before .before .before .
 put-decimal-put-decimal-requires : (t : ℕ) → put-decimal-lts.Need-put-decimal-requires (calls t) (put-decimal-at t) put-decimal.Post
 put-decimal-put-decimal-requires t c κs =
     let a = c .before .before .before .args in
-    let m = decimal-more (a .n) (c .before .before .before .fits .n .fits) (c .before .if1 .left) in
-    (subst (λ (k : ℕ). a .n / 10 < k) (c .before .before .before .pre .0) (div-lt-self (omega (arith, c .before .if1 .left)) (lit< tt)),
-    room-first (decimal (a .n / 10)) ((48 + a .n % 10) ∷ []) (room-as m (c .before .before .before .pre .1)))
+    let m = decimal-more (a .n) (c .before .before .before .fits .n .fits) (c .before .if1 .left) in (
+      subst (λ (k : ℕ). a .n / 10 < k) (c .before .before .before .pre .0) (div-lt-self (omega (arith, c .before .if1 .left)) (lit< tt)),
+      room-first (decimal (a .n / 10)) ((48 + a .n % 10) ∷ []) (room-as m (c .before .before .before .pre .1)),
+    )
 
 put-decimal-cast-put-byte-2 : (t : ℕ) → put-decimal-lts.Need-cast-put-byte-2 (calls t) (put-decimal-at t) put-decimal.Post
 put-decimal-cast-put-byte-2 t c = record { fits = omega (arith, mod-lt (c .before .before .before .before .before .before .before .args .n) {m = 10} (lit< tt)) }

@@ -1,0 +1,36 @@
+-- What the report answers, from the text that was put; and that there is one answer. Assumes nothing.
+use Prim.Native.Nat.{ℕ, _≤_, _<_}
+use mathlib.Core.Path.{_≡_, refl, sym, ap, _∙_}
+use mathlib.Core.List.{List}
+use native.Mathlib.Omega.{arith}
+use lib.ListN.{length}
+use Rattle.drive.specs.declared.refusal.Check.the-variants.{Within}
+use Rattle.showfile.specs.declared.Written.{Written}
+use Rattle.showfile.specs.Answers.{written, writtenOver}
+use Rattle.showfile.proofs.ByteLaws.{over-front}
+use Rattle.report.specs.Answers.{ReportIs, told, short, textMost}
+use Rattle.report.specs.Steps.{Texted}
+use Rattle.report.proofs.Sizes.{text-most}
+use Rattle.report.proofs.Texts.{text-once}
+
+-- The text was put: so it is told, and ends inside the buffer.
+module _ (f was after : List ℕ) (n : ℕ) (h : Texted f was after n) (room : textMost ≤ length was) where
+  pub report-told : ReportIs f was (written Within n) after
+  report-told =
+      let u = h .put .upto in
+      let e : n ≡ length (h .text) = omega arith in
+      let x : after ≡ writtenOver Within (h .text) was = h .put .bytes ∙ over-front was (h .text) in
+      rw (e, x) (told (h .text) (h .told) room)
+
+  pub report-inside : length after ≡ length was → n ≤ length after
+  report-inside k = let e = h .put .upto in let m = text-most f (h .text) (h .told) in omega arith
+
+-- Two reports that meet the statement are equal, in what they answer and in every byte.
+pub report-once :
+    (f b : List ℕ) (r s : Written) (x y : List ℕ) → ReportIs f b r x → ReportIs f b s y → (r ≡ s) × (x ≡ y)
+report-once f b r s x y (told t h l) (told u g m) =
+    let e = text-once f t u h g in
+    (ap (λ (v : List ℕ). written Within (length v)) e, ap (λ (v : List ℕ). writtenOver Within v b) e)
+report-once f b r s x y (told t h l) (short m) = absurd (let z : ⊥ = omega arith in z)
+report-once f b r s x y (short l) (told u g m) = absurd (let z : ⊥ = omega arith in z)
+report-once f b r s x y (short l) (short m) = (refl, refl)

@@ -1,0 +1,117 @@
+-- No text is longer than textMost: of U only B6 is cited. Assumes nothing.
+use Prim.Native.Nat.{ℕ, zero, suc, _+_, _*_, _-_, _^_, _≤_, _<_}
+use mathlib.Core.Path.{_≡_, ap, _∙_}
+use mathlib.Core.List.{List}
+use native.Mathlib.Decide.{decLt}
+use native.Mathlib.Nat.{le-refl, le-trans}
+use native.Mathlib.Numerals.{add-one}
+use native.Mathlib.Omega.{arith}
+use lib.ListN.{length, length-append}
+use Rattle.drive.specs.declared.Show.{Show}
+use Rattle.drive.specs.declared.refusal.Refusal.{Refusal}
+use Rattle.drive.specs.declared.refusal.Refusal.the-variants.{NoSet}
+use Rattle.drive.specs.Bound.{countMost, worstMost}
+use Rattle.drive.specs.Limits.{ShowWithin, sessionAt}
+use Rattle.drive.specs.Worst.{costOf}
+use Rattle.drive.specs.Refusals.{numberOf, placeOf}
+use Rattle.drive.proofs.Bound.{worst-capped}
+use Rattle.drive.proofs.Costs.{cost-limited}
+use Rattle.showfile.proofs.Trip.{read-within}
+use Rattle.theory.specs.Counts.{Load, Good, roundTime, needed}
+use Rattle.theory.specs.Shows.{loadOf}
+use Rattle.theory.proofs.Sum.{sum-capped}
+use Rattle.theory.proofs.Rounds.{count-capped}
+use Rattle.report.specs.Text.{spaced, ended, yesWord, noWord, decimal, twoLine, fourLine, refusedText, sessionLine, sessionLines, acceptedText}
+use Rattle.report.specs.Answers.{loadIn, TextIs, granted, eight, unread, textMost}
+use Rattle.report.specs.Steps.{Room}
+use Rattle.report.proofs.Digits.{decimal-few, decimal-most}
+use Rattle.report.proofs.Texts.{lines-none, lines-more}
+
+two-length : (word : List ℕ) (a b : ℕ) → length (twoLine word a b) ≡ length word + length (decimal a) + length (decimal b) + 2
+two-length word a b = simp length-append (omega arith)
+
+four-length :
+    (a b c d : ℕ) → length (fourLine a b c d) ≡ length (decimal a) + length (decimal b) + length (decimal c) + length (decimal d) + 4
+four-length a b c d = simp length-append (omega arith)
+
+-- What the numbers of a text stay below.
+record Modest (l : Load) (m : ℕ → ℕ) : Type 0 where
+  playing : l .playing ≤ 16
+  count : (i : ℕ) → i < l .playing → m i < countMost
+  time : (i : ℕ) → i < l .playing → l .stream i .time (m i) < worstMost
+  size : (i : ℕ) → i < l .playing → needed l i (m i) ≤ 1073741824
+
+good-modest : (s : Show) → ShowWithin s → (m : ℕ → ℕ) → Good (loadOf s) m → Modest (loadOf s) m
+good-modest s w m g =
+    record {
+      playing = w .counts .sessions;
+      count = few;
+      time = λ i l. worst-capped (s .drive .cylinder) (costOf s i) (cost-limited s w i l) (m i) (let h = few i l in omega arith);
+      size = λ i l. le-trans (g .feasible i l) (w .sessions i l .buffer .high);
+    }
+  where
+    few : (i : ℕ) → i < s .playing → m i < countMost
+    few i l =
+        count-capped _ (s .drive .block) _ (sessionAt s i .buffer) (w .drive .block .low) (w .sessions i l .buffer .high) (g .feasible i l)
+
+module _ (l : Load) (m : ℕ → ℕ) (h : Modest l m) where
+  -- one digit for a session's number below 10, else two
+  line-few : (i : ℕ) → i < l .playing → Dec (i < 10) → length (sessionLine l m i) + (i - 10) ≤ 35 + (i + 1 - 10)
+  line-few i b d =
+      let count = decimal-few 6 (m i) (let g = h .count i b in omega arith) in
+      let time = decimal-few 12 _ (h .time i b) in
+      let size = decimal-few 9 (needed l i (m i)) (let g = h .size i b in omega arith) in
+      let whole = four-length i (m i) (l .stream i .time (m i)) (needed l i (m i)) in
+      number d count time size whole
+    where
+      number :
+          Dec (i < 10) → length (decimal (m i)) ≤ 7 → length (decimal (l .stream i .time (m i))) ≤ 13 →
+          length (decimal (needed l i (m i))) ≤ 10 →
+          length (sessionLine l m i)
+          ≡ length (decimal i) + length (decimal (m i)) + length (decimal (l .stream i .time (m i))) + length (decimal (needed l i (m i))) + 4 →
+          length (sessionLine l m i) + (i - 10) ≤ 35 + (i + 1 - 10)
+      number (yes g) count time size whole = let n = decimal-few 0 i g in omega arith
+      number (no g) count time size whole = let n = decimal-few 1 i (let p = h .playing in omega arith) in omega arith
+
+  lines-few : (n : ℕ) → n ≤ l .playing → length (sessionLines l m n) ≤ 35 * n + (n - 10)
+  lines-few zero b = rw (lines-none l m) (omega arith)
+  lines-few (suc n) b =
+      let i = lines-few n (omega arith) in
+      let g = line-few n (omega arith) (decLt n 10) in
+      let e : length (sessionLines l m (n + 1)) ≡ length (sessionLines l m n) + length (sessionLine l m n) =
+      ap length (lines-more l m n) ∙ length-append (sessionLines l m n) (sessionLine l m n) in
+      rw (← add-one n) (omega arith)
+
+  -- fifteen digits for L
+  round-few : roundTime l m ≤ 16 * worstMost
+  round-few =
+      let s : roundTime l m ≤ l .playing * worstMost = sum-capped _ worstMost (l .playing) (λ i b. (let g = h .time i b in omega arith)) in
+      let p = h .playing in
+      omega arith
+
+  accepted-few : length (acceptedText l m) ≤ textMost
+  accepted-few =
+      let p = h .playing in
+      let count = decimal-few 1 (l .playing) (omega arith) in
+      let round = decimal-few 14 (roundTime l m) (let g = round-few in omega arith) in
+      let lines = lines-few (l .playing) (le-refl _) in
+      let first = two-length yesWord (l .playing) (roundTime l m) in
+      let whole = length-append (twoLine yesWord (l .playing) (roundTime l m)) (sessionLines l m (l .playing)) in
+      omega arith
+
+-- whatever the number and the place
+pub refused-few : (w : Refusal) → length (refusedText w) ≤ textMost
+refused-few w =
+    let number = decimal-most (numberOf w) in
+    let place = decimal-most (placeOf w) in
+    let whole = two-length noWord (numberOf w) (placeOf w) in
+    omega arith
+
+pub text-most : (f t : List ℕ) → TextIs f t → length t ≤ textMost
+text-most f t (granted m e s) = accepted-few (loadIn f) m (good-modest _ (read-within f e) m (s .good))
+text-most f t (eight e none) = refused-few NoSet
+text-most f t (unread w e) = refused-few w
+
+-- A buffer that takes every text has room for this one.
+pub text-room : (f t b : List ℕ) → TextIs f t → textMost ≤ length b → Room b 0 t
+text-room f t b h l = record { fits = (let g = text-most f t h in omega arith) }
