@@ -2,3 +2,4 @@ pub mod Table
 pub mod Trips
 pub mod Verdict
 pub mod Lighter
+pub mod Reports

@@ -2,3 +2,4 @@ pub mod Numbers
 pub mod Files
 pub mod Verdict
 pub mod Lighter
+pub mod Reports

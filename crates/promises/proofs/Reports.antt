@@ -1,0 +1,70 @@
+-- What the calculator says, by citation; the worked texts are computed. Assumes nothing.
+use Prim.Native.Nat.{ℕ, _≤_}
+use mathlib.Core.Path.{_≡_, refl, sym}
+use mathlib.Core.List.{List, []}
+use native.Mathlib.Omega.{arith}
+use native.Mathlib.Decide.{decLt}
+use lib.ListN.{length, replicate}
+use Rattle.drive.specs.declared.Show.{Show}
+use Rattle.drive.specs.declared.refusal.Refusal.{Refusal}
+use Rattle.drive.specs.declared.refusal.Refusal.the-variants.{NoSet}
+use Rattle.drive.specs.declared.refusal.Check.the-variants.{Within}
+use Rattle.drive.specs.Limits.{ShowWithin}
+use Rattle.drive.specs.Decisions.{counts?, drive?, layout?, session?}
+use Rattle.drive.specs.Checks.{showCheck, firstBelow}
+use Rattle.drive.specs.Lists.{listed, padded}
+use Rattle.drive.specs.Bound.{worstTime, edges, ceil}
+use Rattle.drive.specs.Worst.{costOf}
+use Rattle.drive.proofs.Shows.{check-within}
+use Rattle.showfile.specs.Bytes.{wordBytes, halfBytes, fourBytes, rowBytes}
+use Rattle.showfile.specs.File.{layoutBytes, sessionBytes, trailerBytes, trailerFor, fileOf, zeroed}
+use Rattle.showfile.specs.Answers.{reading}
+use Rattle.showfile.proofs.Parts.{zeroed-alike}
+use Rattle.showfile.proofs.Trip.{file-read}
+use Rattle.theory.specs.Sum.{sumTo}
+use Rattle.theory.specs.Shows.{loadOf}
+use Rattle.verdict.specs.declared.Decision.{Decision}
+use Rattle.verdict.specs.declared.Verdict.the-variants as verdict
+use Rattle.verdict.specs.Answers.{DecisionIs, setOf}
+use Rattle.verdict.proofs.Unused.{alike-decision}
+use Rattle.report.specs.Text.{digits, decimal, refusedText, sessionLines, acceptedText}
+use Rattle.report.specs.Answers.{TextIs}
+use Rattle.report.proofs.Texts.{told-yes, told-no, text-once}
+use Rattle.report.proofs.Sizes.{text-most}
+use Rattle.report.proofs.Reports.{report-once}
+use Rattle.promises.specs.Numbers.{X, Z, clip, showOf}
+use Rattle.promises.specs.Files.{Shaped}
+use Rattle.promises.specs.Reports.{Reports}
+use Rattle.promises.proofs.Table.{table}
+
+-- A file that was written of a show is told as the show was decided.
+module _ (x : Show) (note : List ℕ) (shaped : Shaped x) (w : ShowWithin x) (h : length note ≤ 1024) (d : Decision) (is : DecisionIs x d) where
+  again : DecisionIs (zeroed x) d
+  again =
+      let counts = w .counts in
+      let laid : x .laid ≤ length (x .layouts) = omega (arith, shaped .layouts) in
+      let playing : x .playing ≤ length (x .sessions) = omega (arith, shaped .sessions) in
+      alike-decision x (zeroed x) (zeroed-alike x laid playing) d is
+
+  yes-told : d .verdict ≡ verdict.Accepted → TextIs (fileOf x note) (acceptedText (loadOf (zeroed x)) (setOf (d .counts)))
+  yes-told e =
+      told-yes (fileOf x note) (reading Within (zeroed x) (length note)) (sym (file-read x note (shaped .layouts) (shaped .sessions) w h)) refl d again e .told
+
+  no-told : (v : Refusal) → d .verdict ≡ verdict.Refused v → TextIs (fileOf x note) (refusedText v)
+  no-told v e =
+      told-no (fileOf x note) (reading Within (zeroed x) (length note)) (sym (file-read x note (shaped .layouts) (shaped .sessions) w h)) refl d v again e
+
+pub reports : Reports
+unfolding showCheck firstBelow counts? drive? layout? session? decLt costOf worstTime edges ceil sumTo listed padded zeroed fileOf digits decimal sessionLines wordBytes halfBytes fourBytes rowBytes layoutBytes sessionBytes trailerBytes trailerFor
+reports =
+    record {
+      p3-bytes = refl;
+      p3 = yes-told (showOf X (replicate 3 clip)) [] (record { layouts = refl; sessions = refl }) (check-within _ refl) (omega arith) _ (table .p3 .twice) refl;
+      empty = yes-told (showOf X []) [] (record { layouts = refl; sessions = refl }) (check-within _ refl) (omega arith) _ (table .empty) refl;
+      hundred =
+          no-told (showOf Z (replicate 10 clip)) [] (record { layouts = refl; sessions = refl }) (check-within _ refl) (omega arith) _
+          (table .p6 .hundred (λ _. 200000000) (λ i h. omega arith)) NoSet refl;
+      one-text = text-once;
+      one-report = report-once;
+      most = text-most;
+    }
