@@ -29,6 +29,7 @@ use Rattle.verdict.specs.Answers.{DecisionIs, setOf}
 use Rattle.verdict.proofs.Unused.{alike-decision}
 use Rattle.report.specs.Text.{digits, decimal, refusedText, sessionLines, acceptedText}
 use Rattle.report.specs.Answers.{TextIs}
+use Rattle.report.proofs.Numerals.{decimal-numeral}
 use Rattle.report.proofs.Texts.{told-yes, told-no, text-once}
 use Rattle.report.proofs.Sizes.{text-most}
 use Rattle.report.proofs.Reports.{report-once}
@@ -66,5 +67,6 @@ reports =
           (table .p6 .hundred (λ _. 200000000) (λ i h. omega arith)) NoSet refl;
       one-text = text-once;
       one-report = report-once;
+      numbers = decimal-numeral;
       most = text-most;
     }

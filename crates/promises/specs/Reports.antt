@@ -1,11 +1,13 @@
 -- The calculator: what it says of a show file, to the byte. docs/RULES.md, section 8. proofs/Reports.antt proves it.
-use Prim.Native.Nat.{ℕ, _≤_}
+use Prim.Native.Nat.{ℕ, _^_, _≤_, _<_}
 use mathlib.Core.Path.{_≡_}
 use mathlib.Core.List.{List, [], _∷_, _++_}
 use lib.ListN.{length, replicate}
 use Rattle.drive.specs.declared.Show.{Show}
 use Rattle.showfile.specs.declared.Written.{Written}
 use Rattle.showfile.specs.File.{fileOf}
+use Rattle.report.specs.Text.{decimal}
+use Rattle.report.specs.Numerals.{Numeral}
 use Rattle.report.specs.Answers.{TextIs, ReportIs, textMost}
 use Rattle.promises.specs.Numbers.{X, Z, clip, showOf}
 
@@ -41,5 +43,7 @@ pub record Reports : Type 0 where
   pub one-text : (f t u : List ℕ) → TextIs f t → TextIs f u → t ≡ u
   pub one-report :
       (f b : List ℕ) (r s : Written) (x y : List ℕ) → ReportIs f b r x → ReportIs f b s y → (r ≡ s) × (x ≡ y)
+  -- a number is told by its digits
+  pub numbers : (n : ℕ) → n < 2 ^ 64 → Numeral n (decimal n)
   -- no text has more bytes
   pub most : (f t : List ℕ) → TextIs f t → length t ≤ textMost

@@ -14,15 +14,15 @@ digits-none : (n : ℕ) → digits 0 n ≡ []
 unfolding digits
 digits-none n = refl
 
-digits-last : (f n : ℕ) → n < 10 → digits (suc f) n ≡ (48 + n) ∷ []
+pub digits-last : (f n : ℕ) → n < 10 → digits (suc f) n ≡ (48 + n) ∷ []
 unfolding digits
 digits-last f n h = if-pos (decLt n 10) h _ _
 
-digits-more : (f n : ℕ) → (n < 10 → ⊥) → digits (suc f) n ≡ digits f (n / 10) ++ ((48 + n % 10) ∷ [])
+pub digits-more : (f n : ℕ) → (n < 10 → ⊥) → digits (suc f) n ≡ digits f (n / 10) ++ ((48 + n % 10) ∷ [])
 unfolding digits
 digits-more f n h = if-neg (decLt n 10) h _ _
 
-tenth : (k n : ℕ) → n < 10 ^ suc k → n / 10 < 10 ^ k
+pub tenth : (k n : ℕ) → n < 10 ^ suc k → n / 10 < 10 ^ k
 tenth k n h = div-lt-iff-lt-mul (lit< tt) .1 (subst (λ (x : ℕ). n < x) (pow-suc 10 k) h)
 
 digits-most : (f n : ℕ) → length (digits f n) ≤ f

@@ -3,3 +3,4 @@ pub mod Digits
 pub mod Texts
 pub mod Sizes
 pub mod Reports
+pub mod Numerals

@@ -1,3 +1,4 @@
 pub mod Text
 pub mod Answers
 pub mod Steps
+pub mod Numerals
