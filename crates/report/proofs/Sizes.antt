@@ -21,7 +21,8 @@ use Rattle.theory.specs.Counts.{Load, Good, roundTime, needed}
 use Rattle.theory.specs.Shows.{loadOf}
 use Rattle.theory.proofs.Sum.{sum-capped}
 use Rattle.theory.proofs.Rounds.{count-capped}
-use Rattle.report.specs.Text.{spaced, ended, yesWord, noWord, decimal, twoLine, fourLine, refusedText, sessionLine, sessionLines, acceptedText}
+use Rattle.report.specs.Ascii.{ascii}
+use Rattle.report.specs.Text.{spaced, ended, decimal, twoLine, fourLine, refusedText, sessionLine, sessionLines, acceptedText}
 use Rattle.report.specs.Answers.{loadIn, TextIs, granted, eight, unread, textMost}
 use Rattle.report.specs.Steps.{Room}
 use Rattle.report.proofs.Digits.{decimal-few, decimal-most}
@@ -95,8 +96,8 @@ module _ (l : Load) (m : ℕ → ℕ) (h : Modest l m) where
       let count = decimal-few 1 (l .playing) (omega arith) in
       let round = decimal-few 14 (roundTime l m) (let g = round-few in omega arith) in
       let lines = lines-few (l .playing) (le-refl _) in
-      let first = two-length yesWord (l .playing) (roundTime l m) in
-      let whole = length-append (twoLine yesWord (l .playing) (roundTime l m)) (sessionLines l m (l .playing)) in
+      let first = two-length (ascii "accepted ") (l .playing) (roundTime l m) in
+      let whole = length-append (twoLine (ascii "accepted ") (l .playing) (roundTime l m)) (sessionLines l m (l .playing)) in
       omega arith
 
 -- whatever the number and the place
@@ -104,7 +105,7 @@ pub refused-few : (w : Refusal) → length (refusedText w) ≤ textMost
 refused-few w =
     let number = decimal-most (numberOf w) in
     let place = decimal-most (placeOf w) in
-    let whole = two-length noWord (numberOf w) (placeOf w) in
+    let whole = two-length (ascii "refused ") (numberOf w) (placeOf w) in
     omega arith
 
 pub text-most : (f t : List ℕ) → TextIs f t → length t ≤ textMost

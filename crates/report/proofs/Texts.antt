@@ -25,7 +25,8 @@ use Rattle.verdict.specs.Answers.{DecisionIs, accepted, no-set, outside, row, s
 use Rattle.verdict.proofs.Sets.{set-of-row, times-same}
 use Rattle.verdict.proofs.Once.{within-outside}
 use Rattle.verdict.proofs.Decisions.{accepted-refused}
-use Rattle.report.specs.Text.{yesWord, noWord, twoLine, fourLine, refusedText, sessionLine, sessionLines, acceptedText}
+use Rattle.report.specs.Ascii.{ascii}
+use Rattle.report.specs.Text.{twoLine, fourLine, refusedText, sessionLine, sessionLines, acceptedText}
 use Rattle.report.specs.Answers.{loadIn, TextIs, granted, eight, unread}
 use Rattle.report.specs.Steps.{Timed}
 
@@ -46,8 +47,8 @@ line-made s counts times h i l =
     (ap (λ (x : List ℕ). getD x i 0) (h .times) ∙ set-of-row (loadOf s) (λ k. loadOf s .stream k .time (setOf counts k)) i l)
 
 -- A refusal's line, of its number and its place.
-pub refusal-made : (w : Refusal) (t : Told) → t ≡ toldOf w → refusedText w ≡ twoLine noWord (t .number) (t .place)
-refusal-made w t e = ap (λ (x : Told). twoLine noWord (x .number) (x .place)) (sym e)
+pub refusal-made : (w : Refusal) (t : Told) → t ≡ toldOf w → refusedText w ≡ twoLine (ascii "refused ") (t .number) (t .place)
+refusal-made w t e = ap (λ (x : Told). twoLine (ascii "refused ") (x .number) (x .place)) (sym e)
 
 -- ---- one text for a file
 
@@ -62,7 +63,7 @@ module _ (l : Load) (m o : ℕ → ℕ) (same : (i : ℕ) → i < l .playing →
 
   pub text-same : acceptedText l m ≡ acceptedText l o
   text-same =
-      ap₂ (λ (r : ℕ) (a : List ℕ). twoLine yesWord (l .playing) r ++ a) (round-same l m o same) (lines-same (l .playing) (le-refl _))
+      ap₂ (λ (r : ℕ) (a : List ℕ). twoLine (ascii "accepted ") (l .playing) r ++ a) (round-same l m o same) (lines-same (l .playing) (le-refl _))
 
 pub text-once : (f t u : List ℕ) → TextIs f t → TextIs f u → t ≡ u
 text-once f t u (granted m e s) (granted o g r) = text-same (loadIn f) m o (smallest-once (loadIn f) m o s r)

@@ -1,3 +1,4 @@
+pub mod Ascii
 pub mod Text
 pub mod Answers
 pub mod Steps

@@ -6,6 +6,7 @@ use native.Mathlib.Decide.{decLt}
 use Rattle.drive.specs.declared.refusal.Refusal.{Refusal}
 use Rattle.drive.specs.Refusals.{numberOf, placeOf}
 use Rattle.theory.specs.Counts.{Load, roundTime, needed}
+use Rattle.report.specs.Ascii.{ascii}
 
 -- the digits of n, f of them at most; 48 is the digit 0
 unfoldable pub digits : ℕ → ℕ → List ℕ
@@ -18,17 +19,10 @@ decimal n = digits 20 n
 
 -- a number and a space; a number and the end of the line
 abbrev pub spaced : ℕ → List ℕ
-spaced n = decimal n ++ (32 ∷ [])
+spaced n = decimal n ++ ascii " "
 
 abbrev pub ended : ℕ → List ℕ
-ended n = decimal n ++ (10 ∷ [])
-
--- `accepted ` and `refused `
-abbrev pub yesWord : List ℕ
-yesWord = 97 ∷ 99 ∷ 99 ∷ 101 ∷ 112 ∷ 116 ∷ 101 ∷ 100 ∷ 32 ∷ []
-
-abbrev pub noWord : List ℕ
-noWord = 114 ∷ 101 ∷ 102 ∷ 117 ∷ 115 ∷ 101 ∷ 100 ∷ 32 ∷ []
+ended n = decimal n ++ ascii "\n"
 
 -- two numbers after a word, and four numbers, on a line
 abbrev pub twoLine : List ℕ → ℕ → ℕ → List ℕ
@@ -39,7 +33,7 @@ fourLine a b c d = spaced a ++ (spaced b ++ (spaced c ++ ended d))
 
 -- a refusal: `refused`, number, place
 abbrev pub refusedText : Refusal → List ℕ
-refusedText w = twoLine noWord (numberOf w) (placeOf w)
+refusedText w = twoLine (ascii "refused ") (numberOf w) (placeOf w)
 
 -- a session: its number, its count, U(count), the smallest buffer that takes the count
 abbrev pub sessionLine : Load → (ℕ → ℕ) → ℕ → List ℕ
@@ -52,4 +46,4 @@ sessionLines l m (suc n) = sessionLines l m n ++ sessionLine l m n
 
 -- a show with its counts: `accepted`, the session count, L; then each session
 abbrev pub acceptedText : Load → (ℕ → ℕ) → List ℕ
-acceptedText l m = twoLine yesWord (l .playing) (roundTime l m) ++ sessionLines l m (l .playing)
+acceptedText l m = twoLine (ascii "accepted ") (l .playing) (roundTime l m) ++ sessionLines l m (l .playing)

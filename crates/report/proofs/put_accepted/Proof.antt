@@ -7,20 +7,21 @@ use Rattle.theory.specs.Counts.{roundTime}
 use Rattle.theory.specs.Shows.{loadOf}
 use Rattle.verdict.specs.declared.Decision.{Decision}
 use Rattle.verdict.specs.Answers.{setOf}
-use Rattle.report.specs.Text.{yesWord, twoLine, sessionLines}
+use Rattle.report.specs.Ascii.{ascii}
+use Rattle.report.specs.Text.{twoLine, sessionLines}
 use Rattle.report.proofs.Puts.{room-as, room-first, room-then, put-as, put-then}
 use borrow.Author.Needs.{needs}
 use Rattle.report.proofs.put_accepted.Statement.{statement}
 use Rattle.report.proofs.put_accepted.Tie as tie
 
 abbrev first : Show → Decision → List ℕ
-first s d = twoLine yesWord (s .playing) (roundTime (loadOf s) (setOf (d .counts)))
+first s d = twoLine (ascii "accepted ") (s .playing) (roundTime (loadOf s) (setOf (d .counts)))
 
 abbrev rest : Show → Decision → List ℕ
 rest s d = sessionLines (loadOf s) (setOf (d .counts)) (s .playing)
 
-first-same : (s : Show) (d : Decision) → d .round ≡ roundTime (loadOf s) (setOf (d .counts)) → twoLine yesWord (s .playing) (d .round) ≡ first s d
-first-same s d e = ap (λ (t : ℕ). twoLine yesWord (s .playing) t) e
+first-same : (s : Show) (d : Decision) → d .round ≡ roundTime (loadOf s) (setOf (d .counts)) → twoLine (ascii "accepted ") (s .playing) (d .round) ≡ first s d
+first-same s d e = ap (λ (t : ℕ). twoLine (ascii "accepted ") (s .playing) t) e
 
 slice-aggregate-put-two : tie.Need-slice-aggregate-put-two
 slice-aggregate-put-two c = search needs
