@@ -10,7 +10,6 @@ from limits import LAYOUTS, counts_ok, fault, worst_time
 from show_answers import Refused, read, table, unhexed
 
 RECORD = 464
-UNREAD = ('refused 1 ', 'refused 3 ', 'refused 4 ')    # by the file alone
 
 # ---- sets of counts; a show is its drive, the layouts that are used, the sessions that are used
 
@@ -90,10 +89,9 @@ def verdict(data):
 def differences():
     files = {name: unhexed(text) for name, text, _ in table('reads.txt')}
     for name, expected in table('verdicts.txt'):
-        if not expected.startswith(UNREAD):
-            said = verdict(files[name]).replace('\n', '\\n')
-            if said != expected:
-                yield 'verdicts.txt %s: %s, not %s' % (name, said, expected)
+        said = verdict(files[name]).replace('\n', '\\n')
+        if said != expected:
+            yield 'verdicts.txt %s: %s, not %s' % (name, said, expected)
 
 def main():
     if sys.argv[1:] == ['--check']:

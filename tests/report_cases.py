@@ -1,0 +1,135 @@
+#!/usr/bin/env python3
+"""Writes the records that the program `reports` is run on: the files in tests/data, then files made here, the same in every run.
+
+  tests/report_cases.py > crates/reports/stdin
+
+What must come of them tests/report_answers.py says.
+"""
+import sys
+from show_answers import encode, table, unhexed
+from show_cases import BAD_LAYOUT, BAD_SESSION, Made, noted
+from verdict_cases import X, Z, alike, changed
+
+UNIT = 512 * 10**6    # of blocks of 512 bytes: what a count is multiplied with, where it is compared with R x L
+MOST = 2**30          # the largest buffer
+
+def put(data):
+    sys.stdout.buffer.write(len(data).to_bytes(2, 'little') + data)
+
+def put_show(drive, layouts, sessions, note=b''):
+    put(encode((drive, layouts, sessions), note))
+
+def stored():
+    for _, text, _ in table('reads.txt'):
+        put(unhexed(text))
+
+# ---- lengths, counts, refusals
+
+LIGHT = (4096, 32), [X] * 7 + [Z], [(1000 * i + 1000, 100, 1_000_000, i % 8) for i in range(16)]
+
+def lengths():
+    longest = encode(LIGHT, noted(1024))
+    for data in (b'', b'\0', longest[-19:], longest[-20:], longest[:20], bytes(20), longest, longest + b'\0', b'\0' + longest, longest + longest[:172], bytes(172) + longest):
+        put(data)
+
+def playing():
+    drive, layouts, sessions = LIGHT
+    for count in range(17):
+        put_show(drive, layouts, sessions[:count], noted(count))
+
+def refusals():
+    """2 to 5 and 8; 6 and 7 at every place, with and without offenders above."""
+    drive, layouts, sessions = LIGHT
+    for laid, playing in ((0, 1), (9, 1), (65535, 1), (1, 17), (1, 65535)):
+        made = Made(1, 1, noted(700))
+        made.laid, made.playing = laid, playing
+        put(made.file())
+    for first, second in ((32, 15), (31, 16), (48, 32), (2**32 - 1, 16)):
+        made = Made(1, 1, noted(9))
+        made.first, made.second = first, second
+        put(made.file())
+    put_show(drive, layouts, sessions[:2], noted(1025))
+    for wrong in ((511, 32), (4096, 0), (66_048, 65_537)):
+        put_show(wrong, layouts, sessions)
+    for i in range(8):
+        put_show(drive, changed(layouts, i, BAD_LAYOUT[i % 5]), sessions)
+        put_show(drive, layouts[:i] + [BAD_LAYOUT[i % 5]] * (8 - i), changed(sessions, 0, BAD_SESSION[i % 6]))
+    for i in range(16):
+        put_show(drive, layouts, changed(sessions, i, BAD_SESSION[i % 6]))
+        put_show(drive, layouts, sessions[:i] + [BAD_SESSION[i % 6]] * (16 - i))
+    put_show(*alike(Z, 10))
+    put_show(*alike(X, 1, 102_400))
+
+# ---- each column on both sides of each power of ten
+
+def sides(least, most):
+    """The power of each, and the number: one less, or just that."""
+    return [(k, 10**k - less) for k in range(least, most + 1) for less in (1, 0)]
+
+def layout(once, block):
+    """A layout whose operations cost so much once and so much for each block."""
+    rotation = min(10**6, once // 2)
+    return once - 2 * rotation, 0, block, rotation
+
+def counted(count, cushion, buffer):
+    """One session with this smallest count: the least M for which M x (512 - 94 x 4) > 94 x the fixed time."""
+    return (512, 10), [layout(-(-(count - 1) * 136 // 94), 4)], [(94 * 10**6, cushion, buffer, 0)]
+
+def counts():
+    for _, count in sides(1, 6):
+        put_show(*counted(count, 1, MOST))
+
+def buffers():
+    """The smallest buffer is the one that there is; and it is a byte more."""
+    for _, size in sides(4, 9):
+        count = size // 512 - 2
+        cushion = size - 512 * (count + 1)
+        put_show(*counted(count, cushion, size))
+        put_show(*counted(count, cushion + 1, size))
+
+def short_times():
+    """U and L of one session; L of sixteen."""
+    for _, time in sides(1, 6):
+        put_show((512, 10), [(time // 2, 0, time - time // 2, 0)], [(1, 1, MOST, 0)])
+    for _, time in sides(2, 7):
+        part = time // 16
+        put_show((512, 10), [(0, 0, part, 0), (0, 0, time - 15 * part, 0)], [(1, 1, MOST, 0)] * 15 + [(1, 1, MOST, 1)])
+
+def timed(k, time):
+    """A session that takes this time, for a count that the others' fixed times call for: as long as they can be, so that the count is just not larger."""
+    block = 511_980 if k == 12 else 10**min(5, k - 4)
+    rate, count = UNIT // (block + 20), time // block - 1
+    once = time - count * block
+    others = (count * (UNIT - rate * block) - 1) // rate - once
+    rest = others // 15 - ((time + others) // UNIT + 1)
+    return (512, 10), [layout(once, block), layout(rest, 1)], [(rate, 1, MOST, 0)] + [(1, 1, MOST, 1)] * 15
+
+def times():
+    for k, time in sides(7, 12):
+        put_show(*timed(k, time))
+
+def rounds():
+    """L of sixteen that are alike. One microsecond lies between 10^k - 1 and a round that is the next that there is."""
+    for k, less in ((k, less) for k in range(8, 14) for less in (1, 0)):
+        scale, count = 10**max(0, 10 - k), 625 * 10**max(0, k - 10)
+        spare = min(4000, 2_500_000 // count)
+        block, once = 10**6 // scale - spare, spare * count
+        put_show((512, 10), [layout(once, block), layout(once - less, block)], [(32 * scale, 1, MOST, 0)] * 15 + [(32 * scale, 1, MOST, 1)])
+
+# ---- large
+
+def longest():
+    """593 bytes of text, after 673,335 turns: counts of seven digits, times of thirteen, a round of fourteen, buffers of ten."""
+    put_show((1024, 1), [(720_000, 66_664, 10**6, 10**6)], [(60, 2**24, MOST, 0)] * 16)
+
+def heavy():
+    """3,056,065 turns: the load is one part in 512,000,000 under a hundred per cent, and a turn brings one block more to one of two sessions."""
+    put_show((512, 10), [layout(2500, 835_355), layout(2500, 835_123)], [(300, 1, MOST, 0), (313, 1, MOST, 1)])
+
+def main():
+    for part in (stored, lengths, playing, refusals, counts, buffers, short_times, times, rounds, longest, heavy):
+        part()
+    sys.stdout.buffer.write(b'\x14\0' + bytes(19))    # cut short
+
+if __name__ == '__main__':
+    main()

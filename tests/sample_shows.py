@@ -1,0 +1,42 @@
+#!/usr/bin/env python3
+"""Writes the sample shows in the folder shows, from numbers.
+
+  tests/sample_shows.py
+  tests/sample_shows.py --check     says whether the files there are what this writes
+"""
+import pathlib, sys
+from show_answers import encode
+from verdict_cases import X, Z, alike, changed
+
+FOLDER = pathlib.Path(__file__).parent.parent / 'shows'
+
+def almost_full():
+    """Ten on Z, the tenth at a rate that leaves one part in a thousand of the drive."""
+    drive, layouts, sessions = alike(Z, 10)
+    return drive, layouts, changed(sessions, 9, (506_880, *sessions[9][1:]))
+
+# Blocks of 64 KiB, 64 to a cylinder; 7,200 turns a minute. The outer tracks of a drive are the quick ones.
+OUTER, MIDDLE, INNER = (18_000, 1_200, 546, 8_333), (18_000, 1_200, 728, 8_333), (18_000, 1_200, 1_092, 8_333)
+WALL_NOTE = b'Wall, sixteen clips: 0 to 11 the tiles, 12 and 13 the side screens, 14 the main picture, 15 the sound.\n'
+
+def wall():
+    tiles = [(rate, rate // 2, 8_388_608, 0) for rate in (1_500_000, 1_250_000, 1_000_000) for _ in range(4)]
+    sides = [(3_125_000, 1_562_500, 16_777_216, 1)] * 2
+    rest = [(6_250_000, 3_125_000, 33_554_432, 0), (192_000, 96_000, 1_048_576, 2)]
+    return (65_536, 64), [OUTER, MIDDLE, INNER], tiles + sides + rest
+
+def files():
+    return {'p3': encode(alike(X, 3), b''), 'p6': encode(alike(Z, 10), b''), 'p7': encode(almost_full(), b''),
+            'wall': encode(wall(), WALL_NOTE), 'empty': encode(alike(X, 0), b'')}
+
+def main():
+    made = {FOLDER / (name + '.show'): data for name, data in files().items()}
+    if sys.argv[1:] == ['--check']:
+        other = sorted(set(FOLDER.glob('*.show')) ^ set(made)) + [path for path, data in made.items() if path.exists() and path.read_bytes() != data]
+        print('\n'.join('shows/%s: not as written here' % path.name for path in other) or 'every sample show is as written here')
+        sys.exit(1 if other else 0)
+    for path, data in made.items():
+        path.write_bytes(data)
+
+if __name__ == '__main__':
+    main()
