@@ -6,9 +6,10 @@ use libc::STDERR_FILENO;
 use libc::STDIN_FILENO;
 use libc::STDOUT_FILENO;
 use report::TEXT_MOST;
+use showfile::Reading;
 
-// One more than the longest file has: a file that fills this is refused for its length, whatever follows.
-const ROOM: usize = 1_429;
+// A byte more than the longest file: a file that fills this is refused for its length, whatever follows.
+const ROOM: usize = Reading::FILE_MOST + 1;
 
 // How many bytes came, and whether a read failed.
 struct Came {

@@ -3,7 +3,6 @@ use Prim.Native.Nat.{ℕ, _^_, _≤_, _<_}
 use mathlib.Core.Path.{_≡_}
 use mathlib.Core.List.{List, []}
 use lib.ListN.{length, replicate}
-use Rattle.drive.specs.declared.Show.{Show}
 use Rattle.showfile.specs.declared.Written.{Written}
 use Rattle.showfile.specs.File.{fileOf}
 use Rattle.report.specs.Ascii.{ascii}

@@ -7,7 +7,6 @@ use native.Mathlib.Numerals.{add-one}
 use native.Mathlib.Decide.{le-ind}
 use native.Mathlib.Omega.{arith}
 use lib.ListN.{length, set, length-append}
-use Rattle.showfile.specs.Bytes.{over}
 use Rattle.showfile.proofs.ByteLaws.{one-over, over-nothing, over-then}
 use Rattle.report.specs.Steps.{Room, Put}
 

@@ -1,5 +1,5 @@
 -- No text is longer than textMost: of U only B6 is cited. Assumes nothing.
-use Prim.Native.Nat.{ℕ, zero, suc, _+_, _*_, _-_, _^_, _≤_, _<_}
+use Prim.Native.Nat.{ℕ, zero, suc, _+_, _*_, _-_, _≤_, _<_}
 use mathlib.Core.Path.{_≡_, ap, _∙_}
 use mathlib.Core.List.{List}
 use native.Mathlib.Decide.{decLt}
@@ -22,7 +22,7 @@ use Rattle.theory.specs.Shows.{loadOf}
 use Rattle.theory.proofs.Sum.{sum-capped}
 use Rattle.theory.proofs.Rounds.{count-capped}
 use Rattle.report.specs.Ascii.{ascii}
-use Rattle.report.specs.Text.{spaced, ended, decimal, twoLine, fourLine, refusedText, sessionLine, sessionLines, acceptedText}
+use Rattle.report.specs.Text.{decimal, twoLine, fourLine, refusedText, sessionLine, sessionLines, acceptedText}
 use Rattle.report.specs.Answers.{loadIn, TextIs, granted, eight, unread, textMost}
 use Rattle.report.specs.Steps.{Room}
 use Rattle.report.proofs.Digits.{decimal-few, decimal-most}
@@ -36,14 +36,14 @@ four-length :
 four-length a b c d = simp length-append (omega arith)
 
 -- What the numbers of a text stay below.
-record Modest (l : Load) (m : ℕ → ℕ) : Type 0 where
+record Small (l : Load) (m : ℕ → ℕ) : Type 0 where
   playing : l .playing ≤ 16
   count : (i : ℕ) → i < l .playing → m i < countMost
   time : (i : ℕ) → i < l .playing → l .stream i .time (m i) < worstMost
   size : (i : ℕ) → i < l .playing → needed l i (m i) ≤ 1073741824
 
-good-modest : (s : Show) → ShowWithin s → (m : ℕ → ℕ) → Good (loadOf s) m → Modest (loadOf s) m
-good-modest s w m g =
+good-small : (s : Show) → ShowWithin s → (m : ℕ → ℕ) → Good (loadOf s) m → Small (loadOf s) m
+good-small s w m g =
     record {
       playing = w .counts .sessions;
       count = few;
@@ -55,30 +55,26 @@ good-modest s w m g =
     few i l =
         count-capped _ (s .drive .block) _ (sessionAt s i .buffer) (w .drive .block .low) (w .sessions i l .buffer .high) (g .feasible i l)
 
-module _ (l : Load) (m : ℕ → ℕ) (h : Modest l m) where
-  -- one digit for a session's number below 10, else two
-  line-few : (i : ℕ) → i < l .playing → Dec (i < 10) → length (sessionLine l m i) + (i - 10) ≤ 35 + (i + 1 - 10)
-  line-few i b d =
+-- one digit for a session's number below 10, else two
+number-few : (i : ℕ) → i < 16 → Dec (i < 10) → length (decimal i) + (i - 10) ≤ 1 + (i + 1 - 10)
+number-few i b (yes g) = let n = decimal-few 0 i g in omega arith
+number-few i b (no g) = let n = decimal-few 1 i (omega arith) in omega arith
+
+module _ (l : Load) (m : ℕ → ℕ) (h : Small l m) where
+  line-few : (i : ℕ) → i < l .playing → length (sessionLine l m i) + (i - 10) ≤ 35 + (i + 1 - 10)
+  line-few i b =
+      let number = number-few i (let p = h .playing in omega arith) (decLt i 10) in
       let count = decimal-few 6 (m i) (let g = h .count i b in omega arith) in
       let time = decimal-few 12 _ (h .time i b) in
       let size = decimal-few 9 (needed l i (m i)) (let g = h .size i b in omega arith) in
       let whole = four-length i (m i) (l .stream i .time (m i)) (needed l i (m i)) in
-      number d count time size whole
-    where
-      number :
-          Dec (i < 10) → length (decimal (m i)) ≤ 7 → length (decimal (l .stream i .time (m i))) ≤ 13 →
-          length (decimal (needed l i (m i))) ≤ 10 →
-          length (sessionLine l m i)
-          ≡ length (decimal i) + length (decimal (m i)) + length (decimal (l .stream i .time (m i))) + length (decimal (needed l i (m i))) + 4 →
-          length (sessionLine l m i) + (i - 10) ≤ 35 + (i + 1 - 10)
-      number (yes g) count time size whole = let n = decimal-few 0 i g in omega arith
-      number (no g) count time size whole = let n = decimal-few 1 i (let p = h .playing in omega arith) in omega arith
+      omega arith
 
   lines-few : (n : ℕ) → n ≤ l .playing → length (sessionLines l m n) ≤ 35 * n + (n - 10)
   lines-few zero b = rw (lines-none l m) (omega arith)
   lines-few (suc n) b =
       let i = lines-few n (omega arith) in
-      let g = line-few n (omega arith) (decLt n 10) in
+      let g = line-few n (omega arith) in
       let e : length (sessionLines l m (n + 1)) ≡ length (sessionLines l m n) + length (sessionLine l m n) =
       ap length (lines-more l m n) ∙ length-append (sessionLines l m n) (sessionLine l m n) in
       rw (← add-one n) (omega arith)
@@ -109,7 +105,7 @@ refused-few w =
     omega arith
 
 pub text-most : (f t : List ℕ) → TextIs f t → length t ≤ textMost
-text-most f t (granted m e s) = accepted-few (loadIn f) m (good-modest _ (read-within f e) m (s .good))
+text-most f t (granted m e s) = accepted-few (loadIn f) m (good-small _ (read-within f e) m (s .good))
 text-most f t (eight e none) = refused-few NoSet
 text-most f t (unread w e) = refused-few w
 

@@ -6,7 +6,6 @@ use lib.ListN.{length}
 use Rattle.drive.specs.declared.Show.{Show}
 use Rattle.drive.specs.Limits.{ShowWithin}
 use Rattle.showfile.specs.Bytes.{over}
-use Rattle.theory.specs.Counts.{roundTime}
 use Rattle.theory.specs.Shows.{loadOf}
 use Rattle.verdict.specs.Answers.{setOf, timesOf}
 use Rattle.report.specs.Answers.{TextIs}

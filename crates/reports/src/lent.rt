@@ -1,5 +1,4 @@
 // The buffer that is lent: longer than any text, and filled so that a byte that should stay as it was is seen to change.
-ghost use Prim.Native.Nat.{_≤_};
 
 pub(crate) const LENT: usize = 640;
 

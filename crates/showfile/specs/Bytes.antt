@@ -1,5 +1,5 @@
 -- Numbers as bytes, and rows of records of sixteen bytes: docs/RULES.md, section 6. Little endian: the lowest byte comes first.
-use Prim.Native.Nat.{ℕ, zero, suc, _+_, _*_, _-_, _/_, _%_, _<_}
+use Prim.Native.Nat.{ℕ, zero, suc, _+_, _*_, _/_, _%_, _<_}
 use mathlib.Core.List.{List, [], _∷_, _++_}
 use lib.ListN.{length, getD, take, drop}
 

@@ -6,7 +6,6 @@ use mathlib.Core.Logic.{ite}
 use native.Mathlib.Decide.{decLt}
 use lib.ListN.{length, take, drop}
 use Rattle.drive.specs.declared.Layout.{Layout}
-use Rattle.drive.specs.declared.Session.{Session}
 use Rattle.drive.specs.declared.Show.{Show}
 use Rattle.drive.specs.Limits.{layoutAt, sessionAt, noSession}
 use Rattle.drive.specs.Bound.{worstTime, weight, spareOf}

@@ -1,6 +1,6 @@
 -- A tenth of the number first, then its last digit. The number is its own measure. Assumes nothing.
 use mathlib.Core.Path.{sym, subst, _∙_}
-use mathlib.Core.List.{List, [], _∷_}
+use mathlib.Core.List.{[], _∷_}
 use Prim.Native.Nat.{_+_, _/_, _%_}
 use native.Mathlib.Nat.{div-lt-self, mod-lt}
 use native.Mathlib.Omega.{arith}

@@ -6,7 +6,7 @@ use native.Mathlib.Numerals.{add-one}
 use native.Mathlib.Omega.{arith}
 use lib.ListN.{length, getD, take}
 use lib.Seq.{take-suc, take-all}
-use Rattle.report.specs.Steps.{Room, Put}
+use Rattle.report.specs.Steps.{Room}
 use Rattle.report.proofs.Puts.{PutTo, pieces-begun, piece-room, piece-put, pieces-ended, put-as, room-as}
 use Rattle.report.proofs.text.put_word.Statement.{statement}
 use Rattle.report.proofs.text.put_word.Tie as tie
