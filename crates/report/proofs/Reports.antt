@@ -13,17 +13,18 @@ use Rattle.report.specs.Steps.{Texted}
 use Rattle.report.proofs.Sizes.{text-most}
 use Rattle.report.proofs.Texts.{text-once}
 
--- The text was put: so it is told, and ends inside the buffer.
-module _ (f was after : List ℕ) (n : ℕ) (h : Texted f was after n) (room : textMost ≤ length was) where
-  pub report-told : ReportIs f was (written Within n) after
-  report-told =
-      let u = h .put .upto in
-      let e : n ≡ length (h .text) = omega arith in
-      let x : after ≡ writtenOver Within (h .text) was = h .put .bytes ∙ over-front was (h .text) in
-      rw (e, x) (told (h .text) (h .told) room)
+-- The text that was put is what is told.
+pub report-told : (f was after : List ℕ) (n : ℕ) → Texted f was after n → textMost ≤ length was → ReportIs f was (written Within n) after
+report-told f was after n h room =
+    let u = h .put .upto in
+    let e : n ≡ length (h .text) = omega arith in
+    let x : after ≡ writtenOver Within (h .text) was = h .put .bytes ∙ over-front was (h .text) in
+    rw (e, x) (told (h .text) (h .told) room)
 
-  pub report-inside : length after ≡ length was → n ≤ length after
-  report-inside k = let e = h .put .upto in let m = text-most f (h .text) (h .told) in omega arith
+-- What is told ends inside the buffer.
+pub report-inside : (f b : List ℕ) (r : Written) (x : List ℕ) → ReportIs f b r x → length x ≡ length b → r .len ≤ length x
+report-inside f b r x (told t h l) k = let m = text-most f t h in omega arith
+report-inside f b r x (short l) k = omega arith
 
 -- Two reports that meet the statement are equal, in what they answer and in every byte.
 pub report-once :

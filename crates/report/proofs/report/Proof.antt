@@ -17,9 +17,9 @@ same-length c = search needs
 
 returns-2 : tie.Need-returns-2
 returns-2 c =
-    let b = c .before .before .before .before .before .before .before .args .buffer .now in
     let p = c .before .before .put-text in
-    (report-told _ b _ _ (p .ensures) (omega arith), report-inside _ b _ _ (p .ensures) (omega arith) (p .kept .1 .0))
+    let h = report-told _ _ _ _ (p .ensures) (omega arith) in
+    (h, report-inside _ _ _ _ h (p .kept .1 .0))
 
 pub report-spec : {M : Type 1} → statement M
 report-spec = tie.close (tie.spec returns put-text-requires same-length returns-2)
