@@ -11,7 +11,7 @@ use Rattle.drive.specs.declared.Show.{Show}
 use Rattle.drive.specs.declared.refusal.Refusal.{Refusal}
 use Rattle.drive.specs.declared.refusal.Refusal.the-variants.{NoSet}
 use Rattle.drive.specs.Bound.{countMost, worstMost}
-use Rattle.drive.specs.Limits.{ShowWithin, sessionAt}
+use Rattle.drive.specs.Limits.{ShowWithin}
 use Rattle.drive.specs.Worst.{costOf}
 use Rattle.drive.specs.Refusals.{numberOf, placeOf}
 use Rattle.drive.proofs.Bound.{worst-capped}
@@ -20,7 +20,7 @@ use Rattle.showfile.proofs.Trip.{read-within}
 use Rattle.theory.specs.Counts.{Load, Good, roundTime, needed}
 use Rattle.theory.specs.Shows.{loadOf}
 use Rattle.theory.proofs.Sum.{sum-capped}
-use Rattle.theory.proofs.Rounds.{count-capped}
+use Rattle.theory.proofs.Shows.{feasible-few}
 use Rattle.report.specs.Ascii.{ascii}
 use Rattle.report.specs.Text.{decimal, twoLine, fourLine, refusedText, sessionLine, sessionLines, acceptedText}
 use Rattle.report.specs.Answers.{loadIn, TextIs, granted, eight, unread, textMost}
@@ -46,14 +46,10 @@ good-small : (s : Show) → ShowWithin s → (m : ℕ → ℕ) → Good (loadOf 
 good-small s w m g =
     record {
       playing = w .counts .sessions;
-      count = few;
-      time = λ i l. worst-capped (s .drive .cylinder) (costOf s i) (cost-limited s w i l) (m i) (let h = few i l in omega arith);
+      count = feasible-few s w m (g .feasible);
+      time = λ i l. worst-capped (s .drive .cylinder) (costOf s i) (cost-limited s w i l) (m i) (let h = feasible-few s w m (g .feasible) i l in omega arith);
       size = λ i l. le-trans (g .feasible i l) (w .sessions i l .buffer .high);
     }
-  where
-    few : (i : ℕ) → i < s .playing → m i < countMost
-    few i l =
-        count-capped _ (s .drive .block) _ (sessionAt s i .buffer) (w .drive .block .low) (w .sessions i l .buffer .high) (g .feasible i l)
 
 -- one digit for a session's number below 10, else two
 number-few : (i : ℕ) → i < 16 → Dec (i < 10) → length (decimal i) + (i - 10) ≤ 1 + (i + 1 - 10)

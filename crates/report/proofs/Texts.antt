@@ -1,4 +1,4 @@
--- Laws of the calculator's text: its lines, how long it is, and that a file has one. Assumes nothing.
+-- Laws of the calculator's text: what its lines are made of, that a file has one text, and the text of what was decided. Assumes nothing.
 use mathlib.Core.Path.{_≡_, refl, sym, ap, ap₂, _∙_, subst}
 use mathlib.Core.List.{List, [], _++_}
 use Prim.Native.Nat.{ℕ, zero, suc, _+_, _≤_, _<_}

@@ -13,13 +13,14 @@ use Rattle.drive.specs.declared.Layout.{Layout}
 use Rattle.drive.specs.declared.Session.{Session}
 use Rattle.drive.specs.declared.Show.{Show}
 use Rattle.drive.specs.Limits.{ShowWithin, Alike, layoutAt, sessionAt, noSession}
-use Rattle.drive.specs.Bound.{Cheaper, worstTime}
+use Rattle.drive.specs.Bound.{Cheaper, worstTime, countMost}
 use Rattle.drive.specs.Worst.{costOf}
 use Rattle.drive.proofs.Bound.{worst-cheaper}
 use Rattle.drive.proofs.Costs.{session-laws, read-cheaper}
-use Rattle.theory.specs.Counts.{Sound, Good, Smallest}
+use Rattle.theory.specs.Counts.{Sound, Feasible, Good, Smallest}
 use Rattle.theory.specs.Lighter.{Light, Lighter}
 use Rattle.theory.specs.Shows.{loadOf, Quicker, Easier, Eased, without, stoodAt, Lightened, eased, left-out, then}
+use Rattle.theory.proofs.Rounds.{count-capped}
 use Rattle.theory.proofs.Lighter.{lighter-then, lighter-good}
 
 -- A show within its limits is a load of which the theory holds.
@@ -30,6 +31,12 @@ show-sound s w =
       cylinder = w .drive .cylinder .low;
       laws = session-laws s w;
     }
+
+-- Within the limits every count that fits is below the most.
+pub feasible-few :
+    (s : Show) → ShowWithin s → (m : ℕ → ℕ) → Feasible (loadOf s) m → (i : ℕ) → i < s .playing → m i < countMost
+feasible-few s w m f i l =
+    count-capped _ (s .drive .block) _ (sessionAt s i .buffer) (w .drive .block .low) (w .sessions i l .buffer .high) (f i l)
 
 -- ---- lightened in place
 

@@ -9,17 +9,16 @@ use borrow.Author.Count.{below-more}
 use Rattle.drive.specs.declared.Show.{Show}
 use Rattle.drive.specs.declared.cost.Cost.{Cost}
 use Rattle.drive.specs.Limits.{ShowWithin, sessionAt}
-use Rattle.drive.specs.Bound.{countMost, Limited, worstTime}
+use Rattle.drive.specs.Bound.{Limited, worstTime}
 use Rattle.drive.specs.Lists.{listed, padded}
 use Rattle.drive.specs.Worst.{costOf, costsOf, noCost}
 use Rattle.drive.proofs.Costs.{cost-limited, costs-at}
 use Rattle.drive.proofs.Lists.{filled-more, filled-at, listed-same}
 use Rattle.theory.specs.Sum.{sumTo}
 use Rattle.theory.specs.Counts.{Load, unit, roundTime, Good}
-use Rattle.theory.specs.Rounds.{asked, Fits}
 use Rattle.theory.specs.Shows.{loadOf}
 use Rattle.theory.proofs.Sum.{sum-none, sum-more}
-use Rattle.theory.proofs.Rounds.{count-capped, need-enough, need-least, need-some, unit-some, round-same}
+use Rattle.theory.proofs.Rounds.{need-enough, need-least, need-some, unit-some, round-same}
 use Rattle.theory.proofs.Shows.{show-sound}
 use Rattle.verdict.specs.Answers.{row, timesOf, setOf, TrialIs, holds, fails}
 use Rattle.verdict.specs.Steps.{spanOf, givenMost, timeMost, Held, Holds, timedOf}
@@ -31,11 +30,6 @@ use Rattle.verdict.specs.declared.round.Span.{Span}
 use Rattle.verdict.proofs.Spans.{span-asked}
 
 -- ---- the counts that a time asks for
-
--- What fits is of 32 bits.
-pub asked-few : (s : Show) → ShowWithin s → (t : ℕ) → Fits (loadOf s) t → (i : ℕ) → i < s .playing → asked (loadOf s) t i < countMost
-asked-few s w t f i l =
-    count-capped _ (s .drive .block) _ (sessionAt s i .buffer) (w .drive .block .low) (w .sessions i l .buffer .high) (f i l)
 
 -- A row of numbers up to session i.
 pub record Filled (s : Show) (f : ℕ → ℕ) (out : List ℕ) (i : ℕ) : Type 0 where

@@ -8,7 +8,8 @@ use Rattle.drive.proofs.Lists.{filled-none}
 use Rattle.theory.specs.Rounds.{asked}
 use Rattle.theory.specs.Shows.{loadOf}
 use Rattle.verdict.proofs.Spans.{span-asked, span-short}
-use Rattle.verdict.proofs.Sets.{Filled, asked-few, row-begun, row-body, row-ended}
+use Rattle.theory.proofs.Shows.{feasible-few}
+use Rattle.verdict.proofs.Sets.{Filled, row-begun, row-body, row-ended}
 use Rattle.verdict.proofs.round.counts.Statement.{statement}
 use Rattle.verdict.proofs.round.counts.Tie as tie
 
@@ -42,7 +43,7 @@ right :
 right c = c .need .ensures ∙ span-asked _ _ _ _ (c .before .before .before .before .split .ensures)
 
 few : (c : tie.After-need Inv-loop μ-loop) → c .need .result < countMost
-few c = rw (right c) (asked-few _ (c .before .before .before .before .before .pre .0) _ (c .before .before .before .before .before .pre .1 .fits) _ (c .before .before .loop-test .taken))
+few c = rw (right c) (feasible-few _ (c .before .before .before .before .before .pre .0) _ (c .before .before .before .before .before .pre .1 .fits) _ (c .before .before .loop-test .taken))
 
 cast-counts : tie.Need-cast-counts Inv-loop μ-loop
 cast-counts c = let h = few c in omega arith
