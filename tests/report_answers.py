@@ -5,7 +5,7 @@
   tests/report_answers.py --check     holds these rules, and the first cases in crates/reports/stdout, to the texts in tests/data, which came from elsewhere
 """
 import pathlib, sys
-from show_answers import number, table
+from show_answers import end_check, number, table
 from verdict_answers import differences, verdict
 
 def files(data):
@@ -19,18 +19,17 @@ def files(data):
 def case(place, text):
     return 'case %d\n%s' % (place, text)
 
-def stored():
-    """Whether the files in tests/data have their texts in what the program must write."""
+def unlike():
+    """Says it where the files in tests/data do not have their texts in what the program must write."""
     texts = dict(table('verdicts.txt'))
     expected = ''.join(case(i, texts[row[0]].replace('\\n', '\n')) for i, row in enumerate(table('reads.txt')))
     path = pathlib.Path(__file__).parent.parent / 'crates' / 'reports' / 'stdout'
-    return path.read_text().startswith(expected)
+    if not path.read_text().startswith(expected):
+        yield 'crates/reports/stdout: it does not start with the texts in tests/data'
 
 def main():
     if sys.argv[1:] == ['--check']:
-        found = list(differences()) + ([] if stored() else ['crates/reports/stdout: it does not start with the texts in tests/data'])
-        print('\n'.join(found) or 'every text is as expected')
-        sys.exit(1 if found else 0)
+        end_check([*differences(), *unlike()], 'every text is as expected')
     for place, data in enumerate(files(sys.stdin.buffer.read())):
         sys.stdout.write('short\n' if data is None else case(place, verdict(data)))
 

@@ -5,7 +5,7 @@
   tests/sample_shows.py --check     says whether the files there are what this writes
 """
 import pathlib, sys
-from show_answers import encode
+from show_answers import encode, end_check
 from verdict_cases import X, Z, alike, changed
 
 FOLDER = pathlib.Path(__file__).parent.parent / 'shows'
@@ -33,8 +33,7 @@ def main():
     made = {FOLDER / (name + '.show'): data for name, data in files().items()}
     if sys.argv[1:] == ['--check']:
         other = sorted(set(FOLDER.glob('*.show')) ^ set(made)) + [path for path, data in made.items() if path.exists() and path.read_bytes() != data]
-        print('\n'.join('shows/%s: not as written here' % path.name for path in other) or 'every sample show is as written here')
-        sys.exit(1 if other else 0)
+        end_check(('shows/%s: not as written here' % path.name for path in other), 'every sample show is as written here')
     for path, data in made.items():
         path.write_bytes(data)
 

@@ -150,11 +150,15 @@ def differences():
         if ' '.join(said.split(' ')[:3]) != expected:
             yield 'writes.txt %s: %s, not %s' % (name, said, expected)
 
+def end_check(found, fine):
+    """Ends a script that was asked to check: with what it found, or with a word that all is fine."""
+    found = list(found)
+    print('\n'.join(found) or fine)
+    sys.exit(1 if found else 0)
+
 def main():
     if sys.argv[1:] == ['--check']:
-        found = list(differences())
-        print('\n'.join(found) or 'every answer is as expected')
-        sys.exit(1 if found else 0)
+        end_check(differences(), 'every answer is as expected')
     for place, line in enumerate(sys.stdin.read().split('\n')[:-1], 1):
         print(answer(line, place))
 

@@ -7,7 +7,7 @@ which goes by the time of a round where this goes by the counts.
 """
 import struct, sys
 from limits import LAYOUTS, counts_ok, fault, worst_time
-from show_answers import Refused, read, table, unhexed
+from show_answers import Refused, end_check, read, table, unhexed
 
 RECORD = 464
 
@@ -95,9 +95,7 @@ def differences():
 
 def main():
     if sys.argv[1:] == ['--check']:
-        found = list(differences())
-        print('\n'.join(found) or 'every verdict is as expected')
-        sys.exit(1 if found else 0)
+        end_check(differences(), 'every verdict is as expected')
     data = sys.stdin.buffer.read()
     for place, at in enumerate(range(0, len(data), RECORD)):
         record = data[at:at + RECORD]

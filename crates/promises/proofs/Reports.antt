@@ -18,8 +18,8 @@ use Rattle.drive.specs.Worst.{costOf}
 use Rattle.drive.proofs.Shows.{check-within}
 use Rattle.showfile.specs.Bytes.{wordBytes, halfBytes, fourBytes, rowBytes}
 use Rattle.showfile.specs.File.{layoutBytes, sessionBytes, trailerBytes, trailerFor, fileOf, zeroed}
-use Rattle.showfile.specs.Answers.{reading}
-use Rattle.showfile.proofs.Parts.{zeroed-alike}
+use Rattle.showfile.specs.declared.Reading.{Reading}
+use Rattle.showfile.specs.Answers.{reading, readOf}
 use Rattle.showfile.proofs.Trip.{file-read}
 use Rattle.theory.specs.Sum.{sumTo}
 use Rattle.theory.specs.Shows.{loadOf}
@@ -37,23 +37,25 @@ use Rattle.promises.specs.Numbers.{X, Z, clip, showOf}
 use Rattle.promises.specs.Files.{Shaped}
 use Rattle.promises.specs.Reports.{Reports}
 use Rattle.promises.proofs.Table.{table}
+use Rattle.promises.proofs.Trips.{trips}
 
 -- A file that was written of a show is told as the show was decided.
 module _ (x : Show) (note : List ℕ) (shaped : Shaped x) (w : ShowWithin x) (h : length note ≤ 1024) (d : Decision) (is : DecisionIs x d) where
+  -- what is read of it
+  abbrev got : Reading
+  got = reading Within (zeroed x) (length note)
+
+  read-back : got ≡ readOf (fileOf x note)
+  read-back = sym (file-read x note (shaped .layouts) (shaped .sessions) w h)
+
   again : DecisionIs (zeroed x) d
-  again =
-      let counts = w .counts in
-      let laid : x .laid ≤ length (x .layouts) = omega (arith, shaped .layouts) in
-      let playing : x .playing ≤ length (x .sessions) = omega (arith, shaped .sessions) in
-      alike-decision x (zeroed x) (zeroed-alike x laid playing) d is
+  again = alike-decision x (zeroed x) (trips .read-again x note shaped w h .alike) d is
 
   yes-told : d .verdict ≡ verdict.Accepted → TextIs (fileOf x note) (acceptedText (loadOf (zeroed x)) (setOf (d .counts)))
-  yes-told e =
-      told-yes (fileOf x note) (reading Within (zeroed x) (length note)) (sym (file-read x note (shaped .layouts) (shaped .sessions) w h)) refl d again e .told
+  yes-told e = told-yes (fileOf x note) got read-back refl d again e .told
 
   no-told : (v : Refusal) → d .verdict ≡ verdict.Refused v → TextIs (fileOf x note) (refusedText v)
-  no-told v e =
-      told-no (fileOf x note) (reading Within (zeroed x) (length note)) (sym (file-read x note (shaped .layouts) (shaped .sessions) w h)) refl d v again e
+  no-told v e = told-no (fileOf x note) got read-back refl d v again e
 
 pub reports : Reports
 unfolding showCheck firstBelow counts? drive? layout? session? decLt costOf worstTime edges ceil sumTo listed padded zeroed fileOf digits decimal sessionLines wordBytes halfBytes fourBytes rowBytes layoutBytes sessionBytes trailerBytes trailerFor

@@ -10,7 +10,7 @@ use lib.ListN.{length, set, length-append}
 use Rattle.showfile.proofs.ByteLaws.{one-over, over-nothing, over-then}
 use Rattle.report.specs.Steps.{Room, Put}
 
-pub put-none : (was : List ℕ) (at : ℕ) → Put was at [] was at
+put-none : (was : List ℕ) (at : ℕ) → Put was at [] was at
 put-none was at = record { bytes = over-nothing was at; upto = sym (add-zero at) }
 
 pub put-one : (was : List ℕ) (at b : ℕ) → Room was at (b ∷ []) → Put was at (b ∷ []) (set was at b) (at + 1)

@@ -61,7 +61,7 @@ module _ (l : Load) (m o : ℕ → ℕ) (same : (i : ℕ) → i < l .playing →
       ap₂ (λ (a b : List ℕ). a ++ b) (lines-same n (omega arith))
       (ap (λ (k : ℕ). fourLine n k (l .stream n .time k) (needed l n k)) (same n (omega arith)))
 
-  pub text-same : acceptedText l m ≡ acceptedText l o
+  text-same : acceptedText l m ≡ acceptedText l o
   text-same =
       ap₂ (λ (r : ℕ) (a : List ℕ). twoLine (ascii "accepted ") (l .playing) r ++ a) (round-same l m o same) (lines-same (l .playing) (le-refl _))
 
