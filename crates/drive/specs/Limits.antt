@@ -2,7 +2,7 @@
 use Prim.Native.Nat.{ℕ, _%_, _≤_, _<_}
 use mathlib.Core.Path.{_≡_}
 use mathlib.Core.Bool.{Bool, true, false}
-use lib.ListN.{getD}
+use lib.ListN.{getD, replicate}
 use Rattle.drive.specs.declared.Drive.{Drive}
 use Rattle.drive.specs.declared.Layout.{Layout}
 use Rattle.drive.specs.declared.Session.{Session}
@@ -49,6 +49,17 @@ noLayout = record { longest = 0; track = 0; time = 0; rotation = 0 }
 
 abbrev pub noSession : Session
 noSession = record { rate = 0; cushion = 0; buffer = 0; layout = 0 }
+
+-- zeros throughout
+abbrev pub noShow : Show
+noShow =
+    record {
+      drive = record { block = 0; cylinder = 0 };
+      layouts = replicate 8 noLayout;
+      laid = 0;
+      sessions = replicate 16 noSession;
+      playing = 0;
+    }
 
 abbrev pub layoutAt : Show → ℕ → Layout
 layoutAt s i = getD (s .layouts) i noLayout

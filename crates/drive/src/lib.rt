@@ -4,7 +4,7 @@ pub mod refusal;
 
 ghost use mathlib.Core.Path.{_≡_};
 ghost use Prim.Native.Nat.{_≤_};
-ghost use Rattle.drive.specs.Limits.{Tells, DriveWithin, LayoutWithin, SessionWithin, CountsWithin};
+ghost use Rattle.drive.specs.Limits.{Tells, DriveWithin, LayoutWithin, SessionWithin, CountsWithin, noShow};
 ghost use Rattle.drive.specs.Checks.{layoutsCheck, sessionsCheck, showCheck};
 use crate::refusal::Check;
 use crate::refusal::Refusal;
@@ -152,6 +152,34 @@ impl Show {
     pub const LAID_MOST: usize = 8;
 
     pub const PLAYING_MOST: usize = 16;
+
+    // Zeros throughout, for an answer that has no show.
+    pub fn nothing() -> Show
+        ensures { λ r. ⌜ r ≡ noShow ⌝ }
+    {
+        let layout = Layout {
+            longest: 0,
+            track: 0,
+            time: 0,
+            rotation: 0,
+        };
+        let session = Session {
+            rate: 0,
+            cushion: 0,
+            buffer: 0,
+            layout: 0,
+        };
+        Show {
+            drive: Drive {
+                block: 0,
+                cylinder: 0,
+            },
+            layouts: [layout; 8],
+            laid: 0,
+            sessions: [session; 16],
+            playing: 0,
+        }
+    }
 
     // The test of refusal 2 alone, for whoever has the counts before the show.
     pub fn counts_within(laid: usize, playing: usize) -> bool

@@ -9,13 +9,13 @@ use Rattle.drive.specs.declared.Show.{Show}
 use Rattle.drive.specs.declared.refusal.Check.the-variants.{Within, Refused}
 use Rattle.drive.specs.declared.refusal.Refusal.{Refusal}
 use Rattle.drive.specs.declared.refusal.Refusal.the-variants.{FileLength, Counts, Distances, NoteLength, BufferShort}
-use Rattle.drive.specs.Limits.{Between, CountsWithin, ShowWithin}
+use Rattle.drive.specs.Limits.{Between, CountsWithin, ShowWithin, noShow}
 use Rattle.drive.specs.Decisions.{between?, counts?}
 use Rattle.drive.specs.Checks.{showCheck, limitsCheck}
 use Rattle.drive.proofs.Checks.{unless-kept, unless-broken, first-refused, first-within}
 use Rattle.drive.proofs.Shows.{limits-left}
 use Rattle.showfile.specs.declared.trailer.Trailer.{Trailer}
-use Rattle.showfile.specs.File.{trailerOf, fileOf, noShow}
+use Rattle.showfile.specs.File.{trailerOf, fileOf}
 use Rattle.showfile.specs.Checks.{Distanced, distanced?, noteLength, trailerCheck}
 use Rattle.showfile.specs.Answers.{reading, shownAt, readCheck, readAt, readOf, writeCheck}
 use Rattle.showfile.proofs.Passed.{room-left}

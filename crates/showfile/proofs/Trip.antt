@@ -11,7 +11,7 @@ use Rattle.drive.specs.declared.refusal.Check.{Check}
 use Rattle.drive.specs.declared.refusal.Check.the-variants.{Within, Refused}
 use Rattle.drive.specs.declared.refusal.Refusal.{Refusal}
 use Rattle.drive.specs.declared.refusal.Refusal.the-variants.{FileLength}
-use Rattle.drive.specs.Limits.{Between, ShowWithin}
+use Rattle.drive.specs.Limits.{Between, ShowWithin, noShow}
 use Rattle.drive.specs.Decisions.{between?}
 use Rattle.drive.specs.Checks.{first, limitsCheck}
 use Rattle.drive.proofs.Checks.{unless-kept, unless-within, first-left, first-right}
@@ -19,7 +19,7 @@ use Rattle.showfile.specs.declared.trailer.Trailer.{Trailer}
 use Rattle.showfile.specs.declared.Reading.{Reading}
 use Rattle.showfile.specs.declared.Written.{Written}
 use Rattle.showfile.specs.Bytes.{Bytes}
-use Rattle.showfile.specs.File.{trailerOf, trailerBytes, showFrom, trailerFor, fileOf, zeroed, noShow}
+use Rattle.showfile.specs.File.{trailerOf, trailerBytes, showFrom, trailerFor, fileOf, zeroed}
 use Rattle.showfile.specs.Checks.{noteLength, lengthCheck, roomCheck, trailerCheck}
 use Rattle.showfile.specs.Answers.{
   reading,

@@ -5,11 +5,12 @@ use lib.ListN.{length, take, drop}
 use Rattle.drive.specs.declared.Show.{Show}
 use Rattle.drive.specs.declared.refusal.Check.{Check}
 use Rattle.drive.specs.declared.refusal.Check.the-variants.{Within, Refused}
+use Rattle.drive.specs.Limits.{noShow}
 use Rattle.drive.specs.Checks.{first, countsCheck, limitsCheck}
 use Rattle.showfile.specs.declared.trailer.Trailer.{Trailer}
 use Rattle.showfile.specs.declared.Reading.{Reading}
 use Rattle.showfile.specs.declared.Written.{Written}
-use Rattle.showfile.specs.File.{trailerOf, showFrom, fileOf, zeroed, noShow}
+use Rattle.showfile.specs.File.{trailerOf, showFrom, fileOf, zeroed}
 use Rattle.showfile.specs.Checks.{noteLength, lengthCheck, noteCheck, roomCheck, trailerCheck}
 
 -- ---- reading

@@ -1,6 +1,6 @@
 -- What the bytes of a show file mean, and the bytes of a show: docs/RULES.md, section 6.
 use Prim.Native.Nat.{ℕ, _+_, _*_}
-use mathlib.Core.List.{List, [], _++_}
+use mathlib.Core.List.{List, _++_}
 use lib.ListN.{take, drop}
 use Rattle.drive.specs.declared.Layout.{Layout}
 use Rattle.drive.specs.declared.Session.{Session}
@@ -78,15 +78,4 @@ zeroed x =
       laid = x .laid;
       sessions = padded 16 noSession (take (x .playing) (x .sessions));
       playing = x .playing;
-    }
-
--- zeros throughout
-unfoldable pub noShow : Show
-noShow =
-    record {
-      drive = record { block = 0; cylinder = 0 };
-      layouts = padded 8 noLayout [];
-      laid = 0;
-      sessions = padded 16 noSession [];
-      playing = 0;
     }

@@ -9,8 +9,8 @@ ghost use Prim.Native.Nat.{_+_, _*_, _≤_};
 ghost use lib.ListN.{length, drop};
 ghost use Rattle.drive.specs.declared.refusal.Check.the-variants.{Within, Refused};
 ghost use Rattle.drive.specs.Checks.{limitsCheck};
-ghost use Rattle.drive.specs.Limits.{Between, Tells};
-ghost use Rattle.showfile.specs.File.{showFrom, fileOf, noShow};
+ghost use Rattle.drive.specs.Limits.{Between, Tells, noShow};
+ghost use Rattle.showfile.specs.File.{showFrom, fileOf};
 ghost use Rattle.showfile.specs.Checks.{noteLength, trailerCheck};
 ghost use Rattle.showfile.specs.Answers.{reading, readOf, noteOf, shownAt, written, writeCheck, writtenOf, bufferOf, rereadOf, copiedOf, copyOf};
 use crate::bytes::put_bytes;
@@ -21,9 +21,6 @@ use crate::rows::put_sessions;
 use crate::trailer::Trailer;
 use crate::trailer::get_trailer;
 use crate::trailer::put_trailer;
-use drive::Drive;
-use drive::Layout;
-use drive::Session;
 use drive::Show;
 use drive::refusal::Check;
 use drive::refusal::Refusal;
@@ -73,28 +70,7 @@ impl Reading {
 fn refused(why: Refusal) -> Reading
     ensures { λ r. ⌜ r ≡ reading (Refused why) noShow 0 ⌝ }
 {
-    let layout = Layout {
-        longest: 0,
-        track: 0,
-        time: 0,
-        rotation: 0,
-    };
-    let session = Session {
-        rate: 0,
-        cushion: 0,
-        buffer: 0,
-        layout: 0,
-    };
-    let show = Show {
-        drive: Drive {
-            block: 0,
-            cylinder: 0,
-        },
-        layouts: [layout; 8],
-        laid: 0,
-        sessions: [session; 16],
-        playing: 0,
-    };
+    let show = Show::nothing();
     Reading {
         check: Check::Refused(why),
         show,

@@ -1,13 +1,13 @@
 -- A refusal has zeros beside it. Assumes nothing.
-use mathlib.Core.Path.{refl}
-use Rattle.drive.specs.Lists.{padded}
-use Rattle.showfile.specs.File.{noShow}
+use borrow.Author.Needs.{needs}
 use Rattle.showfile.proofs.refused.Statement.{statement}
 use Rattle.showfile.proofs.refused.Tie as tie
 
+nothing-requires : tie.Need-nothing-requires
+nothing-requires c κs = search needs
+
 returns : tie.Need-returns
-unfolding noShow padded
-returns c = refl
+returns c = rw (c .nothing .ensures)
 
 pub refused-spec : {M : Type 1} → statement M
-refused-spec = tie.close (tie.spec returns)
+refused-spec = tie.close (tie.spec nothing-requires returns)

@@ -1,0 +1,124 @@
+-- What each call on a run answers: docs/RULES.md, section 9.
+use Prim.Native.Nat.{ℕ, _-_, _≤_}
+use mathlib.Core.Path.{_≡_}
+use mathlib.Core.Bool.{true, false}
+use mathlib.Core.Logic.{ite}
+use native.Mathlib.Decide.{decLe, decLt, ℕ-discrete}
+use Rattle.drive.specs.declared.refusal.Refusal.{Refusal}
+use Rattle.drive.specs.declared.refusal.Refusal.the-variants as refusal
+use Rattle.drive.specs.declared.refusal.Check.{Check}
+use Rattle.drive.specs.declared.refusal.Check.the-variants.{Within, Refused}
+use Rattle.drive.specs.Checks.{unless, first}
+use Rattle.run.specs.declared.Underway.{Underway}
+use Rattle.run.specs.declared.Underway.the-variants as underway
+use Rattle.run.specs.declared.Run.{Run}
+use Rattle.run.specs.Run.{playing, stateAt, seatAt, onward, PutAt}
+use Rattle.run.specs.Decisions.{sound?, true?, put?}
+use Rattle.run.specs.Steps.{passed, taken, skipped, idled, begun, landed}
+use Rattle.playback.specs.declared.Moved.{Moved}
+use Rattle.playback.specs.declared.Choice.{Choice}
+use Rattle.playback.specs.declared.Choice.the-variants as choice
+use Rattle.playback.specs.declared.Chosen.{Chosen}
+use Rattle.playback.specs.declared.sound.Test.{Test}
+use Rattle.playback.specs.declared.sound.Test.the-variants as test
+
+-- ---- the test of the record
+
+abbrev pub testOf : Run → Test
+testOf r = ite (sound? r) test.Sound test.Damaged
+
+-- 19
+abbrev pub soundCheck : Run → Check
+soundCheck r = unless (sound? r) refusal.Damaged
+
+-- Granted, the next run; refused, the run that was given.
+abbrev pub moved : Check → Run → Run → Moved
+moved Within r next = record { check = Within; run = next }
+moved (Refused w) r next = record { check = Refused w; run = r }
+
+-- ---- pass
+
+-- 11: d over 1,000,000,000
+abbrev pub spanCheck : ℕ → Check
+spanCheck d = unless (decLe d 1000000000) refusal.TooLong
+
+-- 19, 11
+unfoldable pub passCheck : Run → ℕ → Check
+passCheck r d = first (soundCheck r) (spanCheck d)
+
+unfoldable pub passOf : Run → ℕ → Moved
+passOf r d = moved (passCheck r d) r (passed r d)
+
+-- ---- take
+
+-- 9: no such session
+abbrev pub sessionCheck : Run → ℕ → Check
+sessionCheck r i = unless (decLt i (playing r)) refusal.NoSession
+
+-- 12: before the start
+abbrev pub startCheck : Run → ℕ → ℕ → Check
+startCheck r i n = unless (true? (r .started)) refusal.NotStarted
+
+-- 10: more than P - G
+abbrev pub heldCheck : Run → ℕ → ℕ → Check
+heldCheck r i n = unless (decLe n (stateAt r i .put - stateAt r i .taken)) refusal.TooMuch
+
+-- 19, 9, 12, 10
+unfoldable pub takeCheck : Run → ℕ → ℕ → Check
+takeCheck r i n = first (soundCheck r) (first (sessionCheck r i) (first (startCheck r i n) (heldCheck r i n)))
+
+unfoldable pub takeOf : Run → ℕ → ℕ → Moved
+takeOf r i n = moved (takeCheck r i n) r (taken r i n)
+
+-- ---- choose
+
+abbrev pub chosen : Choice → Run → Chosen
+chosen c r = record { choice = c; run = r }
+
+-- the session arrived at when k were skipped: 14, with the run as it was, if one more block would pass the limit on P
+unfoldable pub arrived : Run → ℕ → Chosen
+arrived r k =
+    ite (put? r (seatAt r (onward r k))) (chosen (choice.Read (seatAt r (onward r k))) (begun r k))
+    (chosen (choice.Refused refusal.PutLimit) r)
+
+-- Idle if everyone is skipped; an empty show is Idle, and stays as it is.
+unfoldable pub nextOf : Run → Chosen
+nextOf r =
+    ite (ℕ-discrete (playing r) 0) (chosen choice.Idle r)
+    (ite (decLt (skipped r) (playing r)) (arrived r (skipped r)) (chosen choice.Idle (idled r)))
+
+-- 13: a read is under way
+abbrev pub freeCheck : Underway → Check
+freeCheck underway.Nothing = Within
+freeCheck (underway.Read i) = Refused refusal.ReadUnderway
+
+-- 19, 13
+unfoldable pub chooseCheck : Run → Check
+chooseCheck r = first (soundCheck r) (freeCheck (r .underway))
+
+abbrev pub chosenBy : Check → Run → Chosen
+chosenBy Within r = nextOf r
+chosenBy (Refused w) r = chosen (choice.Refused w) r
+
+unfoldable pub chooseOf : Run → Chosen
+chooseOf r = chosenBy (chooseCheck r) r
+
+-- ---- finish
+
+-- 17: nothing under way
+abbrev pub busyCheck : Underway → Check
+busyCheck underway.Nothing = Refused refusal.NothingUnderway
+busyCheck (underway.Read i) = Within
+
+-- 19, 11, 17
+unfoldable pub finishCheck : Run → ℕ → Check
+finishCheck r d = first (soundCheck r) (first (spanCheck d) (busyCheck (r .underway)))
+
+-- the block of the session under way
+abbrev pub landedFor : Underway → Run → Run
+landedFor underway.Nothing r = r
+landedFor (underway.Read i) r = landed r i
+
+-- d µs pass, then the block has come.
+unfoldable pub finishOf : Run → ℕ → Moved
+finishOf r d = moved (finishCheck r d) r (landedFor (r .underway) (passed r d))

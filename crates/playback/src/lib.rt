@@ -1,0 +1,199 @@
+// The calls on a run: pass, take, choose, finish. Each tests the run record first and hands the run back if it refuses.
+mod cycle;
+pub mod sound;
+
+ghost use mathlib.Core.Path.{_≡_};
+ghost use Prim.Native.Nat.{_+_, _*_, _≤_, _<_};
+ghost use Rattle.run.specs.Run.{putMost};
+ghost use Rattle.run.specs.Sound.{SoundRun};
+ghost use Rattle.run.specs.Steps.{ticked, drawn, passed};
+ghost use Rattle.playback.specs.Answers.{passOf, takeOf, finishOf, chooseOf};
+use crate::cycle::arrive;
+use crate::cycle::idle;
+use crate::cycle::land;
+use crate::cycle::skips;
+use crate::sound::Test;
+use crate::sound::test;
+use drive::refusal::Check;
+use drive::refusal::Refusal;
+use run::Run;
+use run::State;
+use run::Underway;
+
+// What a call answers, and the run after it: the next one, or the one that was given.
+pub struct Moved {
+    pub check: Check,
+    pub run: Run,
+}
+
+// What to read next.
+pub enum Choice {
+    Idle,
+    Read(usize),
+    Refused(Refusal),
+}
+
+// The choice, and the run after it.
+pub struct Chosen {
+    pub choice: Choice,
+    pub run: Run,
+}
+
+// C of one session after d µs.
+fn tick(rate: u32, d: u64, state: State) -> State
+    requires { ⌜ (state .taken ≤ putMost) × (state .clock ≤ state .taken * 1000000) ⌝ }
+    requires { ⌜ d ≤ 1000000000 ⌝ }
+    ensures { λ r. ⌜ r ≡ ticked rate d state ⌝ }
+{
+    let most = state.taken * 1_000_000;
+    let clock = state.clock + rate as u64 * d;
+    let mut next = state;
+    if clock <= most {
+        next.clock = clock;
+    } else {
+        next.clock = most;
+    }
+    next
+}
+
+// The clocks after d µs.
+fn advance(run: Run, d: u64) -> Run
+    requires { ⌜ SoundRun run ⌝ }
+    requires { ⌜ d ≤ 1000000000 ⌝ }
+    ensures { λ r. ⌜ r ≡ passed run d ⌝ }
+{
+    if !run.started {
+        return run;
+    }
+    let show = run.show;
+    let mut next = run;
+    let mut i: usize = 0;
+    while i < show.playing {
+        let session = show.sessions[i];
+        next.states[i] = tick(session.rate, d, next.states[i]);
+        i += 1;
+    }
+    next
+}
+
+// Time goes by, d µs: 19, 11.
+pub fn pass(run: Run, d: u64) -> Moved
+    ensures { λ r. ⌜ r ≡ passOf run d ⌝ }
+{
+    let Test::Sound = test(run) else {
+        return Moved {
+            check: Check::Refused(Refusal::Damaged),
+            run,
+        };
+    };
+    if Run::SPAN_MOST < d {
+        return Moved {
+            check: Check::Refused(Refusal::TooLong),
+            run,
+        };
+    }
+    Moved {
+        check: Check::Within,
+        run: advance(run, d),
+    }
+}
+
+// A player takes n bytes of a session: 19, 9, 12, 10.
+pub fn take(run: Run, session: usize, n: u64) -> Moved
+    ensures { λ r. ⌜ r ≡ takeOf run session n ⌝ }
+{
+    let Test::Sound = test(run) else {
+        return Moved {
+            check: Check::Refused(Refusal::Damaged),
+            run,
+        };
+    };
+    if run.show.playing <= session {
+        return Moved {
+            check: Check::Refused(Refusal::NoSession),
+            run,
+        };
+    }
+    if !run.started {
+        return Moved {
+            check: Check::Refused(Refusal::NotStarted),
+            run,
+        };
+    }
+    let mut state = run.states[session];
+    if state.put - state.taken < n {
+        return Moved {
+            check: Check::Refused(Refusal::TooMuch),
+            run,
+        };
+    }
+    state.taken += n;
+    let mut next = run;
+    next.states[session] = state;
+    Moved {
+        check: Check::Within,
+        run: next,
+    }
+}
+
+// The next read, which is then under way, or Idle: 19, 13, 14.
+pub fn choose(run: Run) -> Chosen
+    ensures { λ r. ⌜ r ≡ chooseOf run ⌝ }
+{
+    let Test::Sound = test(run) else {
+        return Chosen {
+            choice: Choice::Refused(Refusal::Damaged),
+            run,
+        };
+    };
+    let underway = run.underway;
+    let Underway::Nothing = underway else {
+        return Chosen {
+            choice: Choice::Refused(Refusal::ReadUnderway),
+            run,
+        };
+    };
+    if run.show.playing == 0 {
+        return Chosen {
+            choice: Choice::Idle,
+            run,
+        };
+    }
+    let skipped = skips(run);
+    if run.show.playing <= skipped {
+        return Chosen {
+            choice: Choice::Idle,
+            run: idle(run),
+        };
+    }
+    arrive(run, skipped)
+}
+
+// The read under way has come, after d µs: 19, 11, 17.
+pub fn finish(run: Run, d: u64) -> Moved
+    ensures { λ r. ⌜ r ≡ finishOf run d ⌝ }
+{
+    let Test::Sound = test(run) else {
+        return Moved {
+            check: Check::Refused(Refusal::Damaged),
+            run,
+        };
+    };
+    if Run::SPAN_MOST < d {
+        return Moved {
+            check: Check::Refused(Refusal::TooLong),
+            run,
+        };
+    }
+    let underway = run.underway;
+    let Underway::Read(session) = underway else {
+        return Moved {
+            check: Check::Refused(Refusal::NothingUnderway),
+            run,
+        };
+    };
+    Moved {
+        check: Check::Within,
+        run: land(advance(run, d), session),
+    }
+}

@@ -1,0 +1,5 @@
+pub mod Run
+pub mod Sound
+pub mod Decisions
+pub mod Steps
+pub mod Opening

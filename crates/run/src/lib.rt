@@ -1,0 +1,148 @@
+// A run: what the server keeps of a show that plays, and its opening.
+ghost use mathlib.Core.Path.{_≡_};
+ghost use Prim.Native.Nat.{_≤_};
+ghost use Rattle.drive.specs.Limits.{Tells};
+ghost use Rattle.run.specs.Sound.{Waiting, StateSound};
+ghost use Rattle.run.specs.Opening.{OpenIs, tableOrder, firstRun, noRun};
+use drive::Session;
+use drive::Show;
+use drive::refusal::Check;
+use verdict::Verdict;
+use verdict::decide;
+
+// P, G and C of a session: the bytes put and taken, and its clock in microbytes.
+pub struct State {
+    pub put: u64,
+    pub taken: u64,
+    pub clock: u64,
+}
+
+impl State {
+    pub const PUT_MOST: u64 = 1_099_511_627_776;
+
+    // P, G and C in order for such a session, before the start or after.
+    pub fn within(self, session: Session, started: bool) -> bool
+        ensures { λ r. ⌜ Tells r (StateSound started session self) ⌝ }
+    {
+        if State::PUT_MOST < self.put {
+            return false;
+        }
+        if self.put < self.taken {
+            return false;
+        }
+        if (session.buffer as u64) < self.put - self.taken {
+            return false;
+        }
+        if self.taken * 1_000_000 < self.clock {
+            return false;
+        }
+        if started {
+            return true;
+        }
+        self.waits()
+    }
+
+    fn waits(self) -> bool
+        ensures { λ r. ⌜ Tells r (Waiting self) ⌝ }
+    {
+        if self.taken != 0 {
+            return false;
+        }
+        if self.clock != 0 {
+            return false;
+        }
+        true
+    }
+}
+
+// Whether a read is under way, and on which session.
+pub enum Underway {
+    Nothing,
+    Read(usize),
+}
+
+// The show as it was given; each session's count and state; the cycle's order, its place in it, and what is left of the count there.
+// Places from `show.playing` on are not looked at.
+pub struct Run {
+    pub show: Show,
+    pub counts: [u32; 16],
+    pub states: [State; 16],
+    pub order: [u32; 16],
+    pub place: usize,
+    pub left: u32,
+    pub underway: Underway,
+    pub started: bool,
+}
+
+impl Run {
+    // The longest time that one call lets pass, in µs.
+    pub const SPAN_MOST: u64 = 1_000_000_000;
+}
+
+// A run that can begin, or why there is none; refused, the run is zeros.
+pub struct Opened {
+    pub check: Check,
+    pub run: Run,
+}
+
+// The run of an accepted show: 2, 5, 6, 7, 8.
+pub fn open(show: Show) -> Opened
+    ensures { λ r. ⌜ OpenIs show r ⌝ }
+{
+    let decision = decide(show);
+    let verdict = decision.verdict;
+    if let Verdict::Refused(why) = verdict {
+        return Opened {
+            check: Check::Refused(why),
+            run: no_run(),
+        };
+    }
+    let counts = decision.counts;
+    Opened {
+        check: Check::Within,
+        run: first_run(show, counts),
+    }
+}
+
+// Nothing put, taken or under way, and the whole count of the first session left.
+fn first_run(show: Show, counts: [u32; 16]) -> Run
+    requires { ⌜ show .playing ≤ 16 ⌝ }
+    ensures { λ r. ⌜ r ≡ firstRun show counts ⌝ }
+{
+    let none = State {
+        put: 0,
+        taken: 0,
+        clock: 0,
+    };
+    let order = table_order(show.playing);
+    Run {
+        show,
+        counts,
+        states: [none; 16],
+        order,
+        place: 0,
+        left: counts[0],
+        underway: Underway::Nothing,
+        started: false,
+    }
+}
+
+fn table_order(playing: usize) -> [u32; 16]
+    requires { ⌜ playing ≤ 16 ⌝ }
+    ensures { λ r. ⌜ r ≡ tableOrder playing ⌝ }
+{
+    let mut order: [u32; 16] = [0; 16];
+    let mut i: usize = 0;
+    while i < playing {
+        order[i] = i as u32;
+        i += 1;
+    }
+    order
+}
+
+fn no_run() -> Run
+    ensures { λ r. ⌜ r ≡ noRun ⌝ }
+{
+    let show = Show::nothing();
+    first_run(show, [0; 16])
+}
