@@ -1,3 +1,9 @@
 pub mod States
-pub mod Orders
 pub mod Opening
+pub mod Orders
+pub mod Changed
+pub mod Searches
+pub mod Steps
+pub mod Begins
+pub mod Full
+pub mod Rest

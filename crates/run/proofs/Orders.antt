@@ -80,10 +80,10 @@ module _ (f : ℕ → ℕ) (n : ℕ) (h : Apart f (suc n)) where
       elim (ℕ-discrete (f n) i) [
         | yes e ↦ (n, (omega arith, e))
         | no d ↦
-          elim (ℕ-discrete i n) [
-            | yes e ↦ named d e
-            | no g ↦ before i d (there i (omega arith))
-          ]
+            elim (ℕ-discrete i n) [
+              | yes e ↦ named d e
+              | no g ↦ before i d (there i (omega arith))
+            ]
       ]
     where
       named : (f n ≡ i → ⊥) → i ≡ n → Place f (suc n) i
