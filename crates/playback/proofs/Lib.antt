@@ -1,0 +1,5 @@
+pub mod Orders
+pub mod Tests
+pub mod Cycles
+pub mod Clocks
+pub mod Calls

@@ -13,7 +13,7 @@ use crate::cycle::idle;
 use crate::cycle::land;
 use crate::cycle::skips;
 use crate::sound::Test;
-use crate::sound::test;
+use crate::sound::test_run;
 use drive::refusal::Check;
 use drive::refusal::Refusal;
 use run::Run;
@@ -80,7 +80,7 @@ fn advance(run: Run, d: u64) -> Run
 pub fn pass(run: Run, d: u64) -> Moved
     ensures { λ r. ⌜ r ≡ passOf run d ⌝ }
 {
-    let Test::Sound = test(run) else {
+    let Test::Sound = test_run(run) else {
         return Moved {
             check: Check::Refused(Refusal::Damaged),
             run,
@@ -102,7 +102,7 @@ pub fn pass(run: Run, d: u64) -> Moved
 pub fn take(run: Run, session: usize, n: u64) -> Moved
     ensures { λ r. ⌜ r ≡ takeOf run session n ⌝ }
 {
-    let Test::Sound = test(run) else {
+    let Test::Sound = test_run(run) else {
         return Moved {
             check: Check::Refused(Refusal::Damaged),
             run,
@@ -140,7 +140,7 @@ pub fn take(run: Run, session: usize, n: u64) -> Moved
 pub fn choose(run: Run) -> Chosen
     ensures { λ r. ⌜ r ≡ chooseOf run ⌝ }
 {
-    let Test::Sound = test(run) else {
+    let Test::Sound = test_run(run) else {
         return Chosen {
             choice: Choice::Refused(Refusal::Damaged),
             run,
@@ -173,7 +173,7 @@ pub fn choose(run: Run) -> Chosen
 pub fn finish(run: Run, d: u64) -> Moved
     ensures { λ r. ⌜ r ≡ finishOf run d ⌝ }
 {
-    let Test::Sound = test(run) else {
+    let Test::Sound = test_run(run) else {
         return Moved {
             check: Check::Refused(Refusal::Damaged),
             run,

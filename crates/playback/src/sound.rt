@@ -17,7 +17,7 @@ pub enum Test {
     Damaged,
 }
 
-pub fn test(run: Run) -> Test
+pub fn test_run(run: Run) -> Test
     ensures { λ r. ⌜ r ≡ testOf run ⌝ }
 {
     let show = run.show;
@@ -81,7 +81,8 @@ pub(crate) fn has_room(block: u32, session: Session, state: State) -> bool
     requires { ⌜ (state .put ≤ putMost) × (state .taken ≤ putMost) ⌝ }
     ensures { λ r. ⌜ Tells r (Room block session state) ⌝ }
 {
-    if state.taken + session.buffer as u64 < state.put + block as u64 {
+    let most = state.taken + session.buffer as u64;
+    if most < state.put + block as u64 {
         return false;
     }
     true

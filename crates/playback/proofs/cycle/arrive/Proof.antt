@@ -1,0 +1,74 @@
+-- `arrive` begins the read of the session after those skipped. Assumes nothing.
+use mathlib.Core.Path.{_∙_}
+use mathlib.Core.Logic.{inl, inr}
+use native.Mathlib.Omega.{arith}
+use Rattle.playback.specs.Steps.{Seated}
+use Rattle.playback.proofs.Cycles.{sound-seated, onward-few, ahead-few, ahead-limited, left-kept, left-whole, arrives-late, arrives}
+use borrow.Author.Needs.{needs}
+use borrow.Author.Needs.{needs}
+use Rattle.playback.proofs.cycle.arrive.Statement.{statement}
+use Rattle.playback.proofs.cycle.arrive.Tie as tie
+
+seated : (c : tie.Start) → Seated (c .args .t1)
+seated c = sound-seated _ (c .pre .0) (let l = c .pre .1 in omega arith)
+
+add-place : tie.Need-add-place
+add-place c = let p = seated c .place in let n = seated c .some .high in let l = c .pre .1 in omega arith
+
+rem-place : tie.Need-rem-place
+rem-place c = search needs
+
+mul-seat : tie.Need-mul-seat
+mul-seat c = let b = onward-few _ (seated c) (c .args .k) in omega arith
+
+element-copy-out-seat : tie.Need-element-copy-out-seat
+element-copy-out-seat c = onward-few _ (seated c) (c .args .k)
+
+cast-seat : tie.Need-cast-seat
+cast-seat c = search needs
+
+mul-state : tie.Need-mul-state
+mul-state c = let b = ahead-few _ (seated (c .before)) (c .before .args .k) in omega arith
+
+element-copy-out-state : tie.Need-element-copy-out-state
+element-copy-out-state c = ahead-few _ (seated (c .before)) (c .before .args .k)
+
+cast-if1 : tie.Need-cast-if1
+cast-if1 c = search needs
+
+add-if1 : tie.Need-add-if1
+add-if1 c = let p = ahead-limited _ (c .before .before .before .pre .0) (seated (c .before .before .before)) (c .before .before .before .args .k) .0 in omega arith
+
+returns : tie.Need-returns
+returns c = arrives-late _ _ (λ h. let l = c .if1 .taken in let f : ⊥ = omega arith in f)
+
+mul-left : tie.Need-mul-left
+mul-left c = let b = ahead-few _ (seated (c .before .before .before .before .before)) (c .before .before .before .before .before .args .k) in omega arith
+
+element-copy-out-left : tie.Need-element-copy-out-left
+element-copy-out-left c = ahead-few _ (seated (c .before .before .before .before .before)) (c .before .before .before .before .before .args .k)
+
+with-cycle-requires : tie.Need-with-cycle-requires
+with-cycle-requires c κs = search needs
+
+returns-2 : tie.Need-returns-2
+returns-2 c = arrives _ _ _ _ (c .before .before .if1 .left) (elim (c .before .if2 .came) [ inl p ↦ p .2 ∙ left-whole _ _ (p .0 .taken) | inr p ↦ p .1 ∙ left-kept _ _ (p .0 .left) ]) (c .with-cycle .ensures)
+
+pub arrive-spec : {M : Type 1} → statement M
+arrive-spec =
+    tie.close
+    (tie.spec
+    add-place
+    rem-place
+    mul-seat
+    element-copy-out-seat
+    cast-seat
+    mul-state
+    element-copy-out-state
+    cast-if1
+    add-if1
+    returns
+    mul-left
+    element-copy-out-left
+    with-cycle-requires
+    returns-2)

@@ -1,0 +1,33 @@
+-- `idle` gives the place its whole count again. Assumes nothing.
+use native.Mathlib.Omega.{arith}
+use Rattle.run.specs.Steps.{idled}
+use Rattle.playback.proofs.Cycles.{seat-few}
+use mathlib.Core.Path.{refl}
+use borrow.Author.Needs.{needs}
+use borrow.Author.Needs.{needs}
+use Rattle.playback.proofs.cycle.idle.Statement.{statement}
+use Rattle.playback.proofs.cycle.idle.Tie as tie
+
+mul-seat : tie.Need-mul-seat
+mul-seat c = search needs
+
+element-copy-out-seat : tie.Need-element-copy-out-seat
+element-copy-out-seat c = search needs
+
+cast-seat : tie.Need-cast-seat
+cast-seat c = search needs
+
+mul-next : tie.Need-mul-next
+mul-next c = let b = seat-few _ (c .before .pre) _ (c .before .pre .place) in omega arith
+
+element-copy-out-next : tie.Need-element-copy-out-next
+element-copy-out-next c = seat-few _ (c .before .pre) _ (c .before .pre .place)
+
+returns : tie.Need-returns
+unfolding idled
+returns c = refl
+
+pub idle-spec : {M : Type 1} → statement M
+idle-spec =
+    tie.close
+    (tie.spec mul-seat element-copy-out-seat cast-seat mul-next element-copy-out-next returns)

@@ -1,0 +1,90 @@
+-- `skips` counts those without room. Invariant: the first k have none; what falls: playing - k. Assumes nothing.
+use Prim.Native.Nat.{_-_}
+use native.Mathlib.Omega.{arith}
+use borrow.Author.Tests.{not-true, not-false}
+use Rattle.drive.proofs.Checks.{tells-yes, tells-no}
+use Rattle.playback.specs.Steps.{Seated}
+use Rattle.playback.proofs.Cycles.{sound-seated, onward-few, ahead-few, ahead-limited, SkippedTo, skips-none, skips-more, skips-found, skips-all}
+use borrow.Author.Needs.{needs}
+use Rattle.playback.proofs.cycle.skips.Statement.{statement}
+use Rattle.playback.proofs.cycle.skips.Tie as tie
+
+abbrev Inv-loop : tie.InvT-loop
+Inv-loop run show playing k₀ k = SkippedTo run k
+
+abbrev μ-loop : tie.MeasureT-loop
+μ-loop run show playing k₀ k = run .show .playing - k
+
+seated : (c : tie.In-loop Inv-loop μ-loop) → Seated (c .before .before .before .args .t1)
+seated c = sound-seated _ (c .before .before .before .pre) (let l = c .loop-test .taken in omega arith)
+
+loop-holds : tie.Need-loop-holds Inv-loop μ-loop
+loop-holds c = skips-none _
+
+add-at : tie.Need-add-at Inv-loop μ-loop
+add-at c = let p = seated c .place in let n = seated c .some .high in let l = c .loop-test .taken in omega arith
+
+rem-at : tie.Need-rem-at Inv-loop μ-loop
+rem-at c = let l = seated c .some .low in omega arith
+
+mul-seat : tie.Need-mul-seat Inv-loop μ-loop
+mul-seat c = let b = onward-few _ (seated c) (c .before .loop .k) in omega arith
+
+element-copy-out-seat : tie.Need-element-copy-out-seat Inv-loop μ-loop
+element-copy-out-seat c = onward-few _ (seated c) (c .before .loop .k)
+
+cast-seat : tie.Need-cast-seat Inv-loop μ-loop
+cast-seat c = search needs
+
+mul-has-room : tie.Need-mul-has-room Inv-loop μ-loop
+mul-has-room c = let b = ahead-few _ (seated (c .before)) (c .before .before .loop .k) in omega arith
+
+element-copy-out-has-room : tie.Need-element-copy-out-has-room Inv-loop μ-loop
+element-copy-out-has-room c = ahead-few _ (seated (c .before)) (c .before .before .loop .k)
+
+mul-has-room-2 : tie.Need-mul-has-room-2 Inv-loop μ-loop
+mul-has-room-2 c = let b = ahead-few _ (seated (c .before .before)) (c .before .before .before .loop .k) in omega arith
+
+element-copy-out-has-room-2 : tie.Need-element-copy-out-has-room-2 Inv-loop μ-loop
+element-copy-out-has-room-2 c = ahead-few _ (seated (c .before .before)) (c .before .before .before .loop .k)
+
+has-room-requires : tie.Need-has-room-requires Inv-loop μ-loop
+has-room-requires c κs = ahead-limited _ (c .before .before .before .before .before .before .pre) (seated (c .before .before .before)) (c .before .before .before .before .loop .k)
+
+returns : tie.Need-returns Inv-loop μ-loop
+returns c = skips-found _ _ (c .before .before .before .before .before .before .loop .inv) (c .before .before .before .before .before .loop-test .taken) (tells-yes _ (c .before .has-room .result) (c .if1 .taken) (c .before .has-room .ensures))
+
+add-k : tie.Need-add-k Inv-loop μ-loop
+add-k c = let l = c .before .before .before .before .before .loop-test .taken in omega arith
+
+loop-less : tie.Need-loop-less Inv-loop μ-loop
+loop-less c = let l = c .before .before .before .before .before .loop-test .taken in omega arith
+
+loop-again : tie.Need-loop-again Inv-loop μ-loop
+loop-again c = skips-more _ _ (c .before .before .before .before .before .before .loop .inv) (c .before .before .before .before .before .loop-test .taken) (tells-no _ (c .before .has-room .result) (c .if1 .left) (c .before .has-room .ensures))
+
+returns-2 : tie.Need-returns-2 Inv-loop μ-loop
+returns-2 c = skips-all _ _ (c .before .loop .inv) (c .loop-test .left)
+
+pub skips-spec : {M : Type 1} → statement M
+skips-spec =
+    tie.close
+    (tie.spec
+    Inv-loop
+    μ-loop
+    loop-holds
+    add-at
+    rem-at
+    mul-seat
+    element-copy-out-seat
+    cast-seat
+    mul-has-room
+    element-copy-out-has-room
+    mul-has-room-2
+    element-copy-out-has-room-2
+    has-room-requires
+    returns
+    add-k
+    loop-less
+    loop-again
+    returns-2)

@@ -1,0 +1,33 @@
+-- `pass` lets time go by. Assumes nothing.
+use Rattle.playback.proofs.Tests.{tested-sound, tested-damaged}
+use Rattle.playback.proofs.Calls.{pass-damaged, pass-long, pass-granted}
+use borrow.Author.Needs.{needs}
+use borrow.Author.Needs.{needs}
+use Rattle.playback.proofs.pass.Statement.{statement}
+use Rattle.playback.proofs.pass.Tie as tie
+
+test-run-requires : tie.Need-test-run-requires
+test-run-requires c κs = search needs
+
+enum-told : tie.Need-enum-told
+enum-told c = search needs
+
+enum-told-2 : tie.Need-enum-told-2
+enum-told-2 c = search needs
+
+returns : tie.Need-returns
+returns c = pass-damaged _ _ (tested-damaged _ _ (c .before .before .test-run .ensures) (c .enum-told2 .given .1))
+
+returns-2 : tie.Need-returns-2
+returns-2 c = pass-long _ _ (tested-sound _ _ (c .before .before .before .test-run .ensures) (c .before .enum-told .given .1)) (c .if1 .taken)
+
+advance-requires : tie.Need-advance-requires
+advance-requires c κs = ((tested-sound _ _ (c .before .before .before .test-run .ensures) (c .before .enum-told .given .1)), c .if1 .left)
+
+returns-3 : tie.Need-returns-3
+returns-3 c = pass-granted _ _ (tested-sound _ _ (c .before .before .before .before .test-run .ensures) (c .before .before .enum-told .given .1)) _ (c .before .if1 .left) (c .advance .ensures)
+
+pub pass-spec : {M : Type 1} → statement M
+pass-spec =
+    tie.close
+    (tie.spec test-run-requires enum-told enum-told-2 returns returns-2 advance-requires returns-3)
