@@ -110,10 +110,10 @@ module _ (r : Run) (i n : ℕ) where
             moved-refused _ r _ refusal.TooMuch
             (sound r _ s ∙ after _ ∙ started _ ∙ unless-broken (decLe n held) refusal.TooMuch (λ g. let f : ⊥ = omega arith in f))
 
-        pub take-granted : n ≤ held → granted (taken r i n) ≡ takeOf r i n
+        pub take-granted : (q : Run) → n ≤ held → q ≡ taken r i n → granted q ≡ takeOf r i n
         unfolding takeOf takeCheck
-        take-granted m =
-            moved-granted _ r _ (taken r i n) (sound r _ s ∙ after _ ∙ started _ ∙ unless-kept (decLe n held) refusal.TooMuch m) refl
+        take-granted q m f =
+            moved-granted _ r _ q (sound r _ s ∙ after _ ∙ started _ ∙ unless-kept (decLe n held) refusal.TooMuch m) f
 
 -- ---- choose
 

@@ -23,9 +23,6 @@ use Rattle.playback.specs.Steps.{Seated}
 
 -- ---- places
 
-abbrev Limited : State → Type 0
-Limited x = (x .put ≤ putMost) × (x .taken ≤ putMost)
-
 -- A sound run of somebody is somewhere in its cycle.
 pub sound-seated : (r : Run) → SoundRun r → 0 < playing r → Seated r
 sound-seated r s l =
@@ -49,11 +46,10 @@ module _ (r : Run) (h : Seated r) where
   pub ahead-few : (k : ℕ) → seatAt r (onward r k) < 16
   ahead-few k = seat-few (onward r k) (onward-below r k (h .some .low))
 
--- P and G of a session some places on are within the limit on P.
-pub ahead-limited : (r : Run) → SoundRun r → Seated r → (k : ℕ) → Limited (stateAt r (seatAt r (onward r k)))
-ahead-limited r s h k =
-    let x = s .states (seatAt r (onward r k)) (h .seats (onward r k) (onward-below r k (h .some .low))) in
-    (x .put, (let t = x .taken in let p = x .put in omega arith))
+-- P of a session some places on is within its limit.
+pub ahead-put : (r : Run) → SoundRun r → Seated r → (k : ℕ) → stateAt r (seatAt r (onward r k)) .put ≤ putMost
+ahead-put r s h k =
+    s .states (seatAt r (onward r k)) (h .seats (onward r k) (onward-below r k (h .some .low))) .put
 
 -- ---- who is skipped
 
@@ -78,15 +74,15 @@ module _ (r : Run) where
 
 -- ---- where choose arrives
 
+pub left-kept : (k left whole : ℕ) → k ≤ 0 → left ≡ leftAfter k left whole
+left-kept zero left whole l = refl
+left-kept (suc k) left whole l = absurd (let f : ⊥ = omega arith in f)
+
+pub left-whole : (k left whole : ℕ) → 0 < k → whole ≡ leftAfter k left whole
+left-whole zero left whole l = absurd (let f : ⊥ = omega arith in f)
+left-whole (suc k) left whole l = refl
+
 module _ (r : Run) where
-  pub left-kept : (k : ℕ) → k ≤ 0 → r .left ≡ leftAfter r k
-  left-kept zero l = refl
-  left-kept (suc k) l = absurd (let f : ⊥ = omega arith in f)
-
-  pub left-whole : (k : ℕ) → 0 < k → wholeAt r (onward r k) ≡ leftAfter r k
-  left-whole zero l = absurd (let f : ⊥ = omega arith in f)
-  left-whole (suc k) l = refl
-
   module _ (k : ℕ) where
     abbrev here : ℕ
     here = seatAt r (onward r k)
@@ -96,7 +92,7 @@ module _ (r : Run) where
     arrives-late n = sym (if-neg (put? r here) n _ _)
 
     pub arrives :
-        (left : ℕ) (q : Run) → PutAt r here → left ≡ leftAfter r k → q ≡ withCycle r (onward r k) left (Read here) →
+        (left : ℕ) (q : Run) → PutAt r here → left ≡ leftAfter k (r .left) (wholeAt r (onward r k)) → q ≡ withCycle r (onward r k) left (Read here) →
         chosen (choice.Read here) q ≡ arrived r k
     unfolding arrived begun
     arrives left q p e f =

@@ -1,5 +1,3 @@
-pub mod Orders
-pub mod Tests
 pub mod Cycles
 pub mod Clocks
 pub mod Calls

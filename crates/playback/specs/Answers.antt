@@ -19,13 +19,6 @@ use Rattle.playback.specs.declared.Moved.{Moved}
 use Rattle.playback.specs.declared.Choice.{Choice}
 use Rattle.playback.specs.declared.Choice.the-variants as choice
 use Rattle.playback.specs.declared.Chosen.{Chosen}
-use Rattle.playback.specs.declared.sound.Test.{Test}
-use Rattle.playback.specs.declared.sound.Test.the-variants as test
-
--- ---- the test of the record
-
-abbrev pub testOf : Run → Test
-testOf r = ite (sound? r) test.Sound test.Damaged
 
 -- 19
 abbrev pub soundCheck : Run → Check

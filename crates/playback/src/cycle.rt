@@ -4,12 +4,11 @@ ghost use Prim.Native.Nat.{_≤_, _<_};
 ghost use Rattle.run.specs.declared.Underway.the-variants.{Read};
 ghost use Rattle.run.specs.Run.{withCycle};
 ghost use Rattle.run.specs.Sound.{SoundRun};
-ghost use Rattle.run.specs.Steps.{skipped, idled, counted, landed};
+ghost use Rattle.run.specs.Steps.{skipped, idled, leftAfter, counted, landed};
 ghost use Rattle.playback.specs.Answers.{arrived};
 ghost use Rattle.playback.specs.Steps.{Seated};
 use crate::Choice;
 use crate::Chosen;
-use crate::sound::has_room;
 use drive::refusal::Refusal;
 use run::Run;
 use run::State;
@@ -26,7 +25,7 @@ pub(crate) fn skips(run: Run) -> usize
     while k < playing {
         let at = (run.place + k) % playing;
         let seat = run.order[at] as usize;
-        if has_room(show.drive.block, show.sessions[seat], run.states[seat]) {
+        if run.states[seat].room(show.sessions[seat], show.drive.block) {
             return k;
         }
         k += 1;
@@ -66,6 +65,16 @@ pub(crate) fn idle(run: Run) -> Run
     next
 }
 
+// What is left where k were skipped: the whole count if any was.
+fn left_after(k: usize, left: u32, whole: u32) -> u32
+    ensures { λ r. ⌜ r ≡ leftAfter k left whole ⌝ }
+{
+    if 0 < k {
+        return whole;
+    }
+    left
+}
+
 // After k skipped, the read of the session there, unless it would pass the limit on P.
 pub(crate) fn arrive(run: Run, k: usize) -> Chosen
     requires { ⌜ SoundRun run ⌝ }
@@ -81,10 +90,7 @@ pub(crate) fn arrive(run: Run, k: usize) -> Chosen
             run,
         };
     }
-    let mut left = run.left;
-    if 0 < k {
-        left = run.counts[seat];
-    }
+    let left = left_after(k, run.left, run.counts[seat]);
     Chosen {
         choice: Choice::Read(seat),
         run: with_cycle(run, place, left, Underway::Read(seat)),

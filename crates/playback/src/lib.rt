@@ -1,24 +1,23 @@
 // The calls on a run: pass, take, choose, finish. Each tests the run record first and hands the run back if it refuses.
 mod cycle;
-pub mod sound;
 
 ghost use mathlib.Core.Path.{_≡_};
-ghost use Prim.Native.Nat.{_+_, _*_, _≤_, _<_};
-ghost use Rattle.run.specs.Run.{putMost};
+ghost use Prim.Native.Nat.{_-_, _*_, _≤_, _<_};
+ghost use Rattle.run.specs.Run.{stateAt, putMost};
 ghost use Rattle.run.specs.Sound.{SoundRun};
-ghost use Rattle.run.specs.Steps.{ticked, drawn, passed};
+ghost use Rattle.run.specs.Steps.{ticked, passed, taken};
 ghost use Rattle.playback.specs.Answers.{passOf, takeOf, finishOf, chooseOf};
 use crate::cycle::arrive;
 use crate::cycle::idle;
 use crate::cycle::land;
 use crate::cycle::skips;
-use crate::sound::Test;
-use crate::sound::test_run;
 use drive::refusal::Check;
 use drive::refusal::Refusal;
 use run::Run;
 use run::State;
 use run::Underway;
+use run::sound::Test;
+use run::sound::test_run;
 
 // What a call answers, and the run after it: the next one, or the one that was given.
 pub struct Moved {
@@ -98,6 +97,19 @@ pub fn pass(run: Run, d: u64) -> Moved
     }
 }
 
+// G of a session moves forward.
+fn draw(run: Run, session: usize, n: u64) -> Run
+    requires { ⌜ session < 16 ⌝ }
+    requires { ⌜ (n ≤ stateAt run session .put - stateAt run session .taken) × (stateAt run session .put ≤ putMost) ⌝ }
+    ensures { λ r. ⌜ r ≡ taken run session n ⌝ }
+{
+    let mut state = run.states[session];
+    state.taken += n;
+    let mut next = run;
+    next.states[session] = state;
+    next
+}
+
 // A player takes n bytes of a session: 19, 9, 12, 10.
 pub fn take(run: Run, session: usize, n: u64) -> Moved
     ensures { λ r. ⌜ r ≡ takeOf run session n ⌝ }
@@ -120,19 +132,16 @@ pub fn take(run: Run, session: usize, n: u64) -> Moved
             run,
         };
     }
-    let mut state = run.states[session];
+    let state = run.states[session];
     if state.put - state.taken < n {
         return Moved {
             check: Check::Refused(Refusal::TooMuch),
             run,
         };
     }
-    state.taken += n;
-    let mut next = run;
-    next.states[session] = state;
     Moved {
         check: Check::Within,
-        run: next,
+        run: draw(run, session, n),
     }
 }
 

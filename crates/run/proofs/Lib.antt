@@ -1,9 +1,11 @@
 pub mod States
-pub mod Opening
 pub mod Orders
+pub mod Opening
 pub mod Changed
 pub mod Searches
 pub mod Steps
+pub mod Named
+pub mod Tests
 pub mod Begins
 pub mod Full
 pub mod Rest

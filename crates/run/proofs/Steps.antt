@@ -197,7 +197,7 @@ pub begun-sound :
     SoundRun (begun r k)
 unfolding begun
 begun-sound r k s l room most =
-    moved-sound r s (r .states) (onward r k) (leftAfter r k) (Read (seatAt r (onward r k))) (s .states)
+    moved-sound r s (r .states) (onward r k) _ (Read (seatAt r (onward r k))) (s .states)
     (onward-below r k some) (left k)
     (λ i e. (let f : i ≡ seatAt r (onward r k) = cc in record { seat = f; room = rw f room; put = rw f most }))
   where
@@ -205,7 +205,7 @@ begun-sound r k s l room most =
     some = omega arith
 
     -- where none is skipped the place stays, and what is left there
-    left : (k : ℕ) → Between 1 (leftAfter r k) (wholeAt r (onward r k))
+    left : (k : ℕ) → Between 1 (leftAfter k (r .left) (wholeAt r (onward r k))) (wholeAt r (onward r k))
     left zero =
         let c = s .cycle .turning some in
         let f : r .place + 0 ≡ r .place = omega arith in

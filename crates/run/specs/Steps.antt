@@ -52,14 +52,15 @@ firstFrom d k (suc n) = ite (d k) k (firstFrom d (k + 1) n)
 unfoldable pub skipped : Run → ℕ
 skipped r = firstFrom (λ k. room? r (seatAt r (onward r k))) 0 (playing r)
 
--- what is left where k sessions were skipped: the whole count if any was
-abbrev pub leftAfter : Run → ℕ → ℕ
-leftAfter r zero = r .left
-leftAfter r (suc k) = wholeAt r (onward r (suc k))
+-- what is left after k were skipped: the whole count if any was
+abbrev pub leftAfter : ℕ → ℕ → ℕ → ℕ
+leftAfter zero left whole = left
+leftAfter (suc k) left whole = whole
 
 -- The first k sessions from the place on are skipped; the read of the next is under way.
 unfoldable pub begun : Run → ℕ → Run
-begun r k = withCycle r (onward r k) (leftAfter r k) (Read (seatAt r (onward r k)))
+begun r k =
+    withCycle r (onward r k) (leftAfter k (r .left) (wholeAt r (onward r k))) (Read (seatAt r (onward r k)))
 
 -- A block has come for session i.
 abbrev pub filled : ℕ → State → State

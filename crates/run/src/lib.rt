@@ -1,7 +1,10 @@
-// A run: what the server keeps of a show that plays, and its opening.
+// A run: what the server keeps of a show that plays, its opening, and the test of its record.
+pub mod sound;
+
 ghost use mathlib.Core.Path.{_≡_};
 ghost use Prim.Native.Nat.{_≤_};
 ghost use Rattle.drive.specs.Limits.{Tells};
+ghost use Rattle.run.specs.Run.{Room};
 ghost use Rattle.run.specs.Sound.{Waiting, StateSound};
 ghost use Rattle.run.specs.Opening.{OpenIs, tableOrder, firstRun, noRun};
 use drive::Session;
@@ -40,6 +43,31 @@ impl State {
             return true;
         }
         self.waits()
+    }
+
+    // P + A - G is at most B: one more block has room.
+    pub fn room(self, session: Session, block: u32) -> bool
+        ensures { λ r. ⌜ Tells r (Room block session self) ⌝ }
+    {
+        let buffer = session.buffer as u64;
+        let block = block as u64;
+        if self.put < self.taken {
+            if block <= buffer {
+                return true;
+            }
+            if self.taken - self.put < block - buffer {
+                return false;
+            }
+            return true;
+        }
+        let held = self.put - self.taken;
+        if buffer < held {
+            return false;
+        }
+        if buffer - held < block {
+            return false;
+        }
+        true
     }
 
     fn waits(self) -> bool

@@ -2,7 +2,7 @@
 use mathlib.Core.Path.{_∙_, sym, ap}
 use native.Mathlib.Omega.{arith}
 use Rattle.playback.specs.Answers.{arrived}
-use Rattle.playback.proofs.Tests.{tested-sound, tested-damaged}
+use Rattle.run.proofs.Tests.{tested-sound, tested-damaged}
 use Rattle.playback.proofs.Cycles.{sound-seated}
 use Rattle.playback.proofs.Calls.{choose-damaged, choose-busy, choose-empty, choose-idle, choose-next}
 use borrow.Author.Needs.{needs}

@@ -1,8 +1,7 @@
 -- `take` moves G forward on one session. Assumes nothing.
 use native.Mathlib.Omega.{arith}
 use borrow.Author.Tests.{not-true, not-false}
-use Rattle.run.specs.Steps.{taken}
-use Rattle.playback.proofs.Tests.{tested-sound, tested-damaged}
+use Rattle.run.proofs.Tests.{tested-sound, tested-damaged}
 use Rattle.playback.proofs.Calls.{take-damaged, take-nobody, take-early, take-over, take-granted}
 use borrow.Author.Needs.{needs}
 use borrow.Author.Needs.{needs}
@@ -39,18 +38,11 @@ sub-if3 c = (tested-sound _ _ (c .before .before .before .before .before .before
 returns-4 : tie.Need-returns-4
 returns-4 c = take-over _ _ _ (tested-sound _ _ (c .before .before .before .before .before .before .before .test-run .ensures) (c .before .before .before .before .before .enum-told .given .1)) (c .before .before .before .before .if1 .left) (not-false _ (c .before .before .before .if2 .left)) (c .if3 .taken)
 
-add-state : tie.Need-add-state
-add-state c = search needs
-
-mul-state-2 : tie.Need-mul-state-2
-mul-state-2 c = let n = (tested-sound _ _ (c .before .before .before .before .before .before .before .before .test-run .ensures) (c .before .before .before .before .before .before .enum-told .given .1)) .within .counts .sessions in let l = c .before .before .before .before .before .if1 .left in omega arith
-
-element-set-from-state : tie.Need-element-set-from-state
-element-set-from-state c = let n = (tested-sound _ _ (c .before .before .before .before .before .before .before .before .test-run .ensures) (c .before .before .before .before .before .before .enum-told .given .1)) .within .counts .sessions in let l = c .before .before .before .before .before .if1 .left in omega arith
+draw-requires : tie.Need-draw-requires
+draw-requires c κs = ((let n = (tested-sound _ _ (c .before .before .before .before .before .before .before .test-run .ensures) (c .before .before .before .before .before .enum-told .given .1)) .within .counts .sessions in let l = c .before .before .before .before .if1 .left in omega arith), (c .if3 .left, (tested-sound _ _ (c .before .before .before .before .before .before .before .test-run .ensures) (c .before .before .before .before .before .enum-told .given .1)) .states _ (c .before .before .before .before .if1 .left) .put))
 
 returns-5 : tie.Need-returns-5
-unfolding taken
-returns-5 c = take-granted _ _ _ (tested-sound _ _ (c .before .before .before .before .before .before .before .before .test-run .ensures) (c .before .before .before .before .before .before .enum-told .given .1)) (c .before .before .before .before .before .if1 .left) (not-false _ (c .before .before .before .before .if2 .left)) (c .before .if3 .left)
+returns-5 c = take-granted _ _ _ (tested-sound _ _ (c .before .before .before .before .before .before .before .before .test-run .ensures) (c .before .before .before .before .before .before .enum-told .given .1)) (c .before .before .before .before .before .if1 .left) (not-false _ (c .before .before .before .before .if2 .left)) _ (c .before .if3 .left) (c .draw .ensures)
 
 pub take-spec : {M : Type 1} → statement M
 take-spec =
@@ -66,7 +58,5 @@ take-spec =
     element-copy-out-state
     sub-if3
     returns-4
-    add-state
-    mul-state-2
-    element-set-from-state
+    draw-requires
     returns-5)

@@ -1,9 +1,7 @@
 -- `arrive` begins the read of the session after those skipped. Assumes nothing.
-use mathlib.Core.Path.{_∙_}
-use mathlib.Core.Logic.{inl, inr}
 use native.Mathlib.Omega.{arith}
 use Rattle.playback.specs.Steps.{Seated}
-use Rattle.playback.proofs.Cycles.{sound-seated, onward-few, ahead-few, ahead-limited, left-kept, left-whole, arrives-late, arrives}
+use Rattle.playback.proofs.Cycles.{sound-seated, onward-few, ahead-few, ahead-put, arrives-late, arrives}
 use borrow.Author.Needs.{needs}
 use borrow.Author.Needs.{needs}
 use Rattle.playback.proofs.cycle.arrive.Statement.{statement}
@@ -37,22 +35,25 @@ cast-if1 : tie.Need-cast-if1
 cast-if1 c = search needs
 
 add-if1 : tie.Need-add-if1
-add-if1 c = let p = ahead-limited _ (c .before .before .before .pre .0) (seated (c .before .before .before)) (c .before .before .before .args .k) .0 in omega arith
+add-if1 c = let p = ahead-put _ (c .before .before .before .pre .0) (seated (c .before .before .before)) (c .before .before .before .args .k) in omega arith
 
 returns : tie.Need-returns
 returns c = arrives-late _ _ (λ h. let l = c .if1 .taken in let f : ⊥ = omega arith in f)
 
-mul-left : tie.Need-mul-left
-mul-left c = let b = ahead-few _ (seated (c .before .before .before .before .before)) (c .before .before .before .before .before .args .k) in omega arith
+mul-left-after : tie.Need-mul-left-after
+mul-left-after c = let b = ahead-few _ (seated (c .before .before .before .before)) (c .before .before .before .before .args .k) in omega arith
 
-element-copy-out-left : tie.Need-element-copy-out-left
-element-copy-out-left c = ahead-few _ (seated (c .before .before .before .before .before)) (c .before .before .before .before .before .args .k)
+element-copy-out-left-after : tie.Need-element-copy-out-left-after
+element-copy-out-left-after c = ahead-few _ (seated (c .before .before .before .before)) (c .before .before .before .before .args .k)
+
+left-after-requires : tie.Need-left-after-requires
+left-after-requires c κs = search needs
 
 with-cycle-requires : tie.Need-with-cycle-requires
 with-cycle-requires c κs = search needs
 
 returns-2 : tie.Need-returns-2
-returns-2 c = arrives _ _ _ _ (c .before .before .if1 .left) (elim (c .before .if2 .came) [ inl p ↦ p .2 ∙ left-whole _ _ (p .0 .taken) | inr p ↦ p .1 ∙ left-kept _ _ (p .0 .left) ]) (c .with-cycle .ensures)
+returns-2 c = arrives _ _ _ _ (c .before .before .before .if1 .left) (c .before .left-after .ensures) (c .with-cycle .ensures)
 
 pub arrive-spec : {M : Type 1} → statement M
 arrive-spec =
@@ -68,7 +69,8 @@ arrive-spec =
     cast-if1
     add-if1
     returns
-    mul-left
-    element-copy-out-left
+    mul-left-after
+    element-copy-out-left-after
+    left-after-requires
     with-cycle-requires
     returns-2)

@@ -4,7 +4,7 @@ use native.Mathlib.Omega.{arith}
 use borrow.Author.Tests.{not-true, not-false}
 use Rattle.drive.proofs.Checks.{tells-yes, tells-no}
 use Rattle.playback.specs.Steps.{Seated}
-use Rattle.playback.proofs.Cycles.{sound-seated, onward-few, ahead-few, ahead-limited, SkippedTo, skips-none, skips-more, skips-found, skips-all}
+use Rattle.playback.proofs.Cycles.{sound-seated, onward-few, ahead-few, SkippedTo, skips-none, skips-more, skips-found, skips-all}
 use borrow.Author.Needs.{needs}
 use Rattle.playback.proofs.cycle.skips.Statement.{statement}
 use Rattle.playback.proofs.cycle.skips.Tie as tie
@@ -36,23 +36,23 @@ element-copy-out-seat c = onward-few _ (seated c) (c .before .loop .k)
 cast-seat : tie.Need-cast-seat Inv-loop μ-loop
 cast-seat c = search needs
 
-mul-has-room : tie.Need-mul-has-room Inv-loop μ-loop
-mul-has-room c = let b = ahead-few _ (seated (c .before)) (c .before .before .loop .k) in omega arith
+mul-room : tie.Need-mul-room Inv-loop μ-loop
+mul-room c = let b = ahead-few _ (seated (c .before)) (c .before .before .loop .k) in omega arith
 
-element-copy-out-has-room : tie.Need-element-copy-out-has-room Inv-loop μ-loop
-element-copy-out-has-room c = ahead-few _ (seated (c .before)) (c .before .before .loop .k)
+element-copy-out-room : tie.Need-element-copy-out-room Inv-loop μ-loop
+element-copy-out-room c = ahead-few _ (seated (c .before)) (c .before .before .loop .k)
 
-mul-has-room-2 : tie.Need-mul-has-room-2 Inv-loop μ-loop
-mul-has-room-2 c = let b = ahead-few _ (seated (c .before .before)) (c .before .before .before .loop .k) in omega arith
+mul-room-2 : tie.Need-mul-room-2 Inv-loop μ-loop
+mul-room-2 c = let b = ahead-few _ (seated (c .before .before)) (c .before .before .before .loop .k) in omega arith
 
-element-copy-out-has-room-2 : tie.Need-element-copy-out-has-room-2 Inv-loop μ-loop
-element-copy-out-has-room-2 c = ahead-few _ (seated (c .before .before)) (c .before .before .before .loop .k)
+element-copy-out-room-2 : tie.Need-element-copy-out-room-2 Inv-loop μ-loop
+element-copy-out-room-2 c = ahead-few _ (seated (c .before .before)) (c .before .before .before .loop .k)
 
-has-room-requires : tie.Need-has-room-requires Inv-loop μ-loop
-has-room-requires c κs = ahead-limited _ (c .before .before .before .before .before .before .pre) (seated (c .before .before .before)) (c .before .before .before .before .loop .k)
+room-requires : tie.Need-room-requires Inv-loop μ-loop
+room-requires c κs = search needs
 
 returns : tie.Need-returns Inv-loop μ-loop
-returns c = skips-found _ _ (c .before .before .before .before .before .before .loop .inv) (c .before .before .before .before .before .loop-test .taken) (tells-yes _ (c .before .has-room .result) (c .if1 .taken) (c .before .has-room .ensures))
+returns c = skips-found _ _ (c .before .before .before .before .before .before .loop .inv) (c .before .before .before .before .before .loop-test .taken) (tells-yes _ (c .before .room .result) (c .if1 .taken) (c .before .room .ensures))
 
 add-k : tie.Need-add-k Inv-loop μ-loop
 add-k c = let l = c .before .before .before .before .before .loop-test .taken in omega arith
@@ -61,7 +61,7 @@ loop-less : tie.Need-loop-less Inv-loop μ-loop
 loop-less c = let l = c .before .before .before .before .before .loop-test .taken in omega arith
 
 loop-again : tie.Need-loop-again Inv-loop μ-loop
-loop-again c = skips-more _ _ (c .before .before .before .before .before .before .loop .inv) (c .before .before .before .before .before .loop-test .taken) (tells-no _ (c .before .has-room .result) (c .if1 .left) (c .before .has-room .ensures))
+loop-again c = skips-more _ _ (c .before .before .before .before .before .before .loop .inv) (c .before .before .before .before .before .loop-test .taken) (tells-no _ (c .before .room .result) (c .if1 .left) (c .before .room .ensures))
 
 returns-2 : tie.Need-returns-2 Inv-loop μ-loop
 returns-2 c = skips-all _ _ (c .before .loop .inv) (c .loop-test .left)
@@ -78,11 +78,11 @@ skips-spec =
     mul-seat
     element-copy-out-seat
     cast-seat
-    mul-has-room
-    element-copy-out-has-room
-    mul-has-room-2
-    element-copy-out-has-room-2
-    has-room-requires
+    mul-room
+    element-copy-out-room
+    mul-room-2
+    element-copy-out-room-2
+    room-requires
     returns
     add-k
     loop-less

@@ -7,12 +7,12 @@ use Rattle.drive.proofs.Checks.{tells-yes, tells-no}
 use Rattle.theory.specs.Counts.{Good}
 use Rattle.theory.specs.Shows.{loadOf}
 use Rattle.verdict.specs.Answers.{setOf}
 use Rattle.run.specs.Sound.{StatesSound, NamesEach}
-use Rattle.playback.proofs.Tests.{trial-good, trial-bad, test-sound, test-damaged}
+use Rattle.run.proofs.Tests.{trial-good, trial-bad, test-sound, test-damaged}
 use borrow.Author.Needs.{needs}
 use borrow.Author.Needs.{needs}
-use Rattle.playback.proofs.sound.test_run.Statement.{statement}
-use Rattle.playback.proofs.sound.test_run.Tie as tie
+use Rattle.run.proofs.sound.test_run.Statement.{statement}
+use Rattle.run.proofs.sound.test_run.Tie as tie
 
 tried-requires : tie.Need-tried-requires
 tried-requires c κs = search needs
@@ -45,7 +45,7 @@ returns-3 : tie.Need-returns-3
 returns-3 c = test-damaged _ (λ s. tells-no _ (c .before .names-each .result) (not-true _ (c .if2 .taken)) (c .before .names-each .ensures) (s .order))
 
 cycle-sound-requires : tie.Need-cycle-sound-requires
-cycle-sound-requires c κs = (good (c .before .before .before .before .before) .0 .counts .sessions, (states (c .before .before .before), names c))
+cycle-sound-requires c κs = (good (c .before .before .before .before .before) .0 .counts .sessions, names c)
 
 returns-4 : tie.Need-returns-4
 returns-4 c = test-damaged _ (λ s. tells-no _ (c .before .cycle-sound .result) (not-true _ (c .if3 .taken)) (c .before .cycle-sound .ensures) (s .cycle))

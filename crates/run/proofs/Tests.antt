@@ -14,15 +14,14 @@ use Rattle.verdict.specs.declared.Answer.the-variants as answer
 use Rattle.verdict.specs.declared.Trial.{Trial}
 use Rattle.verdict.specs.Answers.{TrialIs, holds, fails, untried, setOf}
 use Rattle.verdict.proofs.Once.{within-outside}
 use Rattle.run.specs.declared.Run.{Run}
 use Rattle.run.specs.declared.Underway.the-variants.{Nothing, Read}
 use Rattle.run.specs.Run.{playing, clipAt, stateAt, seatAt, wholeAt, RoomAt, PutAt}
 use Rattle.run.proofs.Steps.{nothing-read}
 use Rattle.run.specs.Sound.{StateSound, StatesSound, Resting, Turning, MayRead, CycleSound, SoundRun}
-use Rattle.run.specs.Decisions.{sound?}
-use Rattle.playback.specs.declared.sound.Test.{Test}
-use Rattle.playback.specs.declared.sound.Test.the-variants as test
-use Rattle.playback.specs.Answers.{testOf}
+use Rattle.run.specs.declared.sound.Test.{Test}
+use Rattle.run.specs.declared.sound.Test.the-variants as test
+use Rattle.run.specs.Decisions.{sound?, testOf}
 
 -- ---- the counts
 

@@ -1,14 +1,14 @@
 // The test of refusal 19: whether a run record is sound.
 ghost use mathlib.Core.Path.{_≡_};
-ghost use Prim.Native.Nat.{_≤_, _<_};
-ghost use Rattle.drive.specs.Limits.{Between, Tells};
-ghost use Rattle.run.specs.Run.{Room, RoomAt, PutAt, putMost};
+ghost use Prim.Native.Nat.{_+_, _≤_};
+ghost use Rattle.drive.specs.Limits.{Tells};
+ghost use Rattle.run.specs.Run.{Room, putMost};
 ghost use Rattle.run.specs.Sound.{StatesSound, NamesEach, Resting, CycleSound};
-ghost use Rattle.playback.specs.Answers.{testOf};
+ghost use Rattle.run.specs.Decisions.{testOf};
+use crate::Run;
+use crate::State;
+use crate::Underway;
 use drive::Session;
-use run::Run;
-use run::State;
-use run::Underway;
 use verdict::Answer;
 use verdict::tried;
 
@@ -76,22 +76,10 @@ fn names_each(order: [u32; 16], playing: usize) -> bool
     true
 }
 
-// One more block has room.
-pub(crate) fn has_room(block: u32, session: Session, state: State) -> bool
-    requires { ⌜ (state .put ≤ putMost) × (state .taken ≤ putMost) ⌝ }
-    ensures { λ r. ⌜ Tells r (Room block session state) ⌝ }
-{
-    let most = state.taken + session.buffer as u64;
-    if most < state.put + block as u64 {
-        return false;
-    }
-    true
-}
-
-// Where the cycle is, once the states and the order are known to be sound.
+// Where the cycle is, once the order is known to name each session once.
 fn cycle_sound(run: Run) -> bool
     requires { ⌜ run .show .playing ≤ 16 ⌝ }
-    requires { ⌜ StatesSound run × NamesEach (run .order) (run .show .playing) ⌝ }
+    requires { ⌜ NamesEach (run .order) (run .show .playing) ⌝ }
     ensures { λ r. ⌜ Tells r (CycleSound run) ⌝ }
 {
     if run.show.playing == 0 {
@@ -115,7 +103,8 @@ fn cycle_sound(run: Run) -> bool
     if session != seat {
         return false;
     }
-    takes_one(run, seat)
+    let show = run.show;
+    takes_one(run.states[seat], show.sessions[seat], show.drive.block)
 }
 
 fn rests(run: Run) -> bool
@@ -134,17 +123,14 @@ fn rests(run: Run) -> bool
     true
 }
 
-// A session has room for one more block, and keeps to the limit on P with it.
-fn takes_one(run: Run, session: usize) -> bool
-    requires { ⌜ (run .show .playing ≤ 16) × (session < run .show .playing) × StatesSound run ⌝ }
-    ensures { λ r. ⌜ Tells r (RoomAt run session × PutAt run session) ⌝ }
+// One more block has room, and keeps to the limit on P.
+fn takes_one(state: State, session: Session, block: u32) -> bool
+    ensures { λ r. ⌜ Tells r (Room block session state × (state .put + block ≤ putMost)) ⌝ }
 {
-    let show = run.show;
-    let state = run.states[session];
-    if !has_room(show.drive.block, show.sessions[session], state) {
+    if !state.room(session, block) {
         return false;
     }
-    if State::PUT_MOST < state.put + show.drive.block as u64 {
+    if State::PUT_MOST - (block as u64) < state.put {
         return false;
     }
     true
