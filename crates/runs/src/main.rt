@@ -1,0 +1,229 @@
+// Reads operations on a run from standard input and prints what each answers, with a checksum of the run after it (docs/RULES.md,
+// section 9). The input is numbers, the lowest byte first. A record has three of 8 bytes: operation, index, value.
+//   0 show     a show of 400 bytes follows, numbers of 4 bytes: A, N, the layout count, the session count, eight layouts and sixteen
+//              sessions of four numbers each; it is opened
+//   1 pass     value µs
+//   2 take     value bytes of the session index
+//   3 choose
+//   4 finish   after value µs
+//   5 save     the run is kept
+//   6 back     the kept run is the run again
+//   7 dump     the whole run is printed
+//   16 to 37   a field of the run is overwritten by the value: poked.rt says which
+// The answers, a line each, which tests/run_answers.py computes on its own:
+//   RECORD ANSWER CHECKSUM
+//   short, for a last record that is cut short
+// where ANSWER is `ok`, `idle`, `read SESSION`, `refused NUMBER PLACE`, or `unknown` for an operation or an index that there is not.
+// The checksum is over every field, those of the show and those in unused places too, from h = 0 on: (31 h + field) mod 2,147,483,647.
+// After the line of a dump come the fields, in that order. Both runs are zeros at first.
+mod given;
+mod poked;
+mod told;
+
+ghost use Prim.Native.Nat.{_<_, _≤_};
+ghost use lib.ListN.{length};
+use crate::given::Asked;
+use crate::given::RECORD;
+use crate::given::SHOW;
+use crate::given::asked_of;
+use crate::given::numbers;
+use crate::given::show_of;
+use crate::poked::poke;
+use crate::told::checksum;
+use crate::told::dump;
+use crate::told::number;
+use crate::told::refusal;
+use crate::told::say;
+use drive::Show;
+use drive::refusal::Check;
+use libc::STDIN_FILENO;
+use playback::Choice;
+use playback::Chosen;
+use playback::Moved;
+use run::Run;
+
+// The run that the calls are on, and the kept one.
+struct Desk {
+    run: Run,
+    kept: Run,
+}
+
+// Where the next record starts, and the runs by then.
+struct Turn {
+    at: usize,
+    desk: Desk,
+}
+
+fn main() {
+    let mut bytes = room();
+    let n = io::read_full(STDIN_FILENO, &mut bytes);
+    records(&bytes[..n]);
+}
+
+// Room for all of the input. Apart from `main`, whose proof then need not look at a million zeros.
+fn room() -> [u8; 1_048_576] {
+    [0; 1_048_576]
+}
+
+fn nothing() -> Desk {
+    let opened = run::open(Show::nothing());
+    let run = opened.run;
+    Desk { run, kept: run }
+}
+
+fn records(bytes: &[u8]) {
+    let mut at = 0;
+    let mut place = 0;
+    let mut desk = nothing();
+    while at < bytes.len() {
+        let turn = answer_at(bytes, at, place, desk);
+        at = turn.at;
+        desk = turn.desk;
+        place += 1;
+    }
+}
+
+// Answers the record that starts at `at`.
+fn answer_at(bytes: &[u8], at: usize, place: usize, desk: Desk) -> Turn
+    requires { ⌜ at < length (now bytes) ⌝ }
+    ensures { λ r. ⌜ at < r .at ⌝ }
+{
+    if bytes.len() - at < RECORD {
+        say(b"short\n");
+        return Turn {
+            at: bytes.len(),
+            desk,
+        };
+    }
+    let end = at + RECORD;
+    let asked = asked_of(&bytes[at..end]);
+    if asked.operation == 0 {
+        return show_at(bytes, end, place, desk);
+    }
+    Turn {
+        at: end,
+        desk: answer(asked, place, desk),
+    }
+}
+
+// Opens the show that starts at `at`.
+fn show_at(bytes: &[u8], at: usize, place: usize, desk: Desk) -> Turn
+    requires { ⌜ at ≤ length (now bytes) ⌝ }
+    ensures { λ r. ⌜ at ≤ r .at ⌝ }
+{
+    if bytes.len() - at < SHOW {
+        say(b"short\n");
+        return Turn {
+            at: bytes.len(),
+            desk,
+        };
+    }
+    let end = at + SHOW;
+    number(place as u64);
+    let n = numbers(&bytes[at..end]);
+    let run = open(show_of(&n));
+    checksum(run);
+    say(b"\n");
+    let kept = desk.kept;
+    Turn {
+        at: end,
+        desk: Desk { run, kept },
+    }
+}
+
+fn answer(asked: Asked, place: usize, desk: Desk) -> Desk {
+    number(place as u64);
+    let next = perform(asked, desk);
+    let run = next.run;
+    checksum(run);
+    say(b"\n");
+    if asked.operation == 7 {
+        dump(run);
+    }
+    next
+}
+
+fn perform(asked: Asked, desk: Desk) -> Desk {
+    let run = desk.run;
+    let kept = desk.kept;
+    let operation = asked.operation;
+    match operation {
+        5 => {
+            say(b" ok");
+            Desk { run, kept: run }
+        }
+        6 => {
+            say(b" ok");
+            Desk { run: kept, kept }
+        }
+        _ => Desk {
+            run: call(asked, run),
+            kept,
+        },
+    }
+}
+
+// ---- the calls, each told as it answers
+
+fn call(asked: Asked, run: Run) -> Run {
+    let operation = asked.operation;
+    match operation {
+        1 => moved(playback::pass(run, asked.value)),
+        2 => moved(playback::take(run, asked.index, asked.value)),
+        3 => chosen(playback::choose(run)),
+        4 => moved(playback::finish(run, asked.value)),
+        7 => {
+            say(b" ok");
+            run
+        }
+        _ => overwritten(asked, run),
+    }
+}
+
+fn open(show: Show) -> Run {
+    let opened = run::open(show);
+    let check = opened.check;
+    checked(check);
+    opened.run
+}
+
+fn moved(m: Moved) -> Run {
+    let check = m.check;
+    checked(check);
+    m.run
+}
+
+fn checked(check: Check) {
+    let Check::Refused(why) = check else {
+        say(b" ok");
+        return;
+    };
+    refusal(why);
+}
+
+fn chosen(c: Chosen) -> Run {
+    let choice = c.choice;
+    match choice {
+        Choice::Idle => {
+            say(b" idle");
+        }
+        Choice::Read(session) => {
+            say(b" read ");
+            number(session as u64);
+        }
+        Choice::Refused(why) => {
+            refusal(why);
+        }
+    }
+    c.run
+}
+
+fn overwritten(asked: Asked, run: Run) -> Run {
+    let p = poke(asked, run);
+    if p.known {
+        say(b" ok");
+    } else {
+        say(b" unknown");
+    }
+    p.run
+}

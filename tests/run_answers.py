@@ -1,0 +1,262 @@
+#!/usr/bin/env python3
+"""Writes what the program `runs` must write for the records on standard input, from docs/RULES.md alone: it shares nothing with the proved code.
+
+  tests/run_answers.py < crates/runs/stdin > crates/runs/stdout
+"""
+import copy, struct, sys
+from limits import LAYOUTS, SESSIONS, counts_ok, fault, within
+from show_answers import Refused, test_counts, test_limits
+from verdict_answers import holds, rows, smallest
+
+RECORD, SHOW = 24, 400
+PUT_MOST, SPAN_MOST, MICRO = 2**40, 10**9, 10**6
+MODULUS = 2**31 - 1
+OPEN, PASS, TAKE, CHOOSE, FINISH, SAVE, BACK, DUMP = range(8)
+COUNT, P, G, C = range(4)
+
+class Run:
+    """A run record: a show in memory, and the run's own fields, which are zeros at first."""
+    def __init__(self, numbers=(0,) * 100):
+        self.head = list(numbers[:4])    # A, N, layout count, session count
+        self.layouts = [list(row) for row in rows(numbers[4:], LAYOUTS)]
+        self.sessions = [list(row) for row in rows(numbers[4 + 4 * LAYOUTS:], SESSIONS)]
+        self.states = [[0] * 4 for _ in range(SESSIONS)]    # count, P, G, C
+        self.order = [0] * SESSIONS
+        self.place = self.left = 0
+        self.under = None    # or the session
+        self.started = False
+
+    def block(self):
+        return self.head[0]
+
+    def playing(self):
+        return self.head[3]
+
+    def show(self):
+        """Its drive, the layouts that are used, the sessions that are used."""
+        block, cylinder, laid, playing = self.head
+        return (block, cylinder), self.layouts[:laid], self.sessions[:playing]
+
+    def whole(self, place):
+        return self.states[self.order[place]][COUNT]
+
+    def has_room(self, i):
+        return self.states[i][P] + self.block() - self.states[i][G] <= self.sessions[i][2]
+
+    def has_limit(self, i):
+        """The limit on P is kept with one block more."""
+        return self.states[i][P] + self.block() <= PUT_MOST
+
+    def fields(self):
+        under = (0, 0) if self.under is None else (1, self.under)
+        yield from self.head
+        for row in self.layouts:
+            yield from row
+        for session, state, named in zip(self.sessions, self.states, self.order):
+            yield from (*session, *state, named)
+        yield from (self.place, self.left, *under, int(self.started))
+
+def opened(numbers):
+    run = Run(numbers)
+    test_counts(*numbers[2:4])
+    test_limits(*run.show())
+    counts = smallest(run.show())
+    if counts is None:
+        raise Refused(8, 0)
+    for i, count in enumerate(counts):
+        run.states[i][COUNT] = count
+        run.order[i] = i
+    run.left = counts[0] if counts else 0
+    return run
+
+# ---- refusal 19
+
+def state_sound(run, i):
+    _, put, taken, clock = run.states[i]
+    early = run.started or taken == clock == 0
+    return put <= PUT_MOST and within(taken, 0, put) and put - taken <= run.sessions[i][2] and clock <= taken * MICRO and early
+
+def cycle_sound(run):
+    if run.playing() == 0:
+        return run.place == run.left == 0 and run.under is None
+    if run.place >= run.playing() or not within(run.left, 1, run.whole(run.place)):
+        return False
+    seat = run.order[run.place]
+    return run.under is None or (run.under == seat and run.has_room(seat) and run.has_limit(seat))
+
+def sound(run):
+    if not counts_ok(*run.head[2:]) or fault(*run.show()) is not None:
+        return False
+    each = range(run.playing())
+    return (holds(run.show(), [run.states[i][COUNT] for i in each]) and all(state_sound(run, i) for i in each)
+            and sorted(run.order[:len(each)]) == list(each) and cycle_sound(run))
+
+# ---- the calls; each changes the run that it is given and says what it answers, or is refused
+
+def advance(run, d):
+    if run.started:
+        for i in range(run.playing()):
+            state = run.states[i]
+            state[C] = min(state[C] + run.sessions[i][0] * d, state[G] * MICRO)
+
+def pass_time(run, _, d):
+    if d > SPAN_MOST:
+        raise Refused(11, 0)
+    advance(run, d)
+    return 'ok'
+
+def take(run, i, n):
+    if i >= run.playing():
+        raise Refused(9, 0)
+    if not run.started:
+        raise Refused(12, 0)
+    if n > run.states[i][P] - run.states[i][G]:
+        raise Refused(10, 0)
+    run.states[i][G] += n
+    return 'ok'
+
+def choose(run, *_):
+    if run.under is not None:
+        raise Refused(13, 0)
+    if run.playing() == 0:
+        return 'idle'
+    turn = [(run.place + k) % run.playing() for k in range(run.playing())]
+    roomy = [place for place in turn if run.has_room(run.order[place])]
+    if not roomy:
+        run.left = run.whole(run.place)
+        return 'idle'
+    seat = run.order[roomy[0]]
+    if not run.has_limit(seat):
+        raise Refused(14, 0)
+    if roomy[0] != run.place:
+        run.left = run.whole(roomy[0])
+    run.place, run.under = roomy[0], seat
+    return 'read %d' % seat
+
+def finish(run, _, d):
+    if d > SPAN_MOST:
+        raise Refused(11, 0)
+    if run.under is None:
+        raise Refused(17, 0)
+    advance(run, d)
+    run.states[run.under][P] += run.block()
+    run.under = None
+    run.left -= 1
+    if run.left == 0:
+        run.place = (run.place + 1) % run.playing()
+        run.left = run.whole(run.place)
+    return 'ok'
+
+CALLS = {PASS: pass_time, TAKE: take, CHOOSE: choose, FINISH: finish}
+
+def called(run, operation, index, value):
+    """The answer and the run after it."""
+    after = copy.deepcopy(run)
+    try:
+        if not sound(run):
+            raise Refused(19, 0)
+        return CALLS[operation](after, index, value), after
+    except Refused as no:
+        return 'refused %d %d' % no.args, run
+
+# ---- a field that is overwritten
+
+ROWS = ((20, LAYOUTS, 'layouts'), (24, SESSIONS, 'sessions'), (28, SESSIONS, 'states'))
+
+def poked(run, field, index, value):
+    """The run with the field changed, or None where there is no such field."""
+    run, half = copy.deepcopy(run), value % 2**32
+    for first, places, name in ROWS:
+        if within(field, first, first + 3):
+            if index >= places:
+                return None
+            getattr(run, name)[index][field - first] = value if name == 'states' and field - first != COUNT else half
+            return run
+    if field in (16, 17):
+        run.head[field - 16] = half
+    elif field in (18, 19):
+        run.head[field - 16] = value
+    elif field == 32 and index < SESSIONS:
+        run.order[index] = half
+    elif field == 33:
+        run.place = value
+    elif field == 34:
+        run.left = half
+    elif field in (35, 36):
+        run.under = value if field == 36 else None
+    elif field == 37:
+        run.started = value != 0
+    else:
+        return None
+    return run
+
+# ---- what is printed
+
+def checksum(run):
+    total = 0
+    for field in run.fields():
+        total = (total * 31 + field) % MODULUS
+    return total
+
+def dumped(run):
+    """The lines of a dump."""
+    def spaced(*numbers):
+        return ' '.join(map(str, numbers))
+    yield ' drive %s, used %s' % (spaced(*run.head[:2]), spaced(*run.head[2:]))
+    for i, row in enumerate(run.layouts):
+        yield ' layout %d: %s' % (i, spaced(*row))
+    for i, (session, state, named) in enumerate(zip(run.sessions, run.states, run.order)):
+        yield ' session %d: %s, count %d, state %s, order %d' % (i, spaced(*session), state[COUNT], spaced(*state[P:]), named)
+    under = 'nothing under way' if run.under is None else 'under way %d' % run.under
+    yield ' place %d, left %d, %s, started %d' % (run.place, run.left, under, run.started)
+
+# ---- the records
+
+class Desk:
+    """The run that the operations are on, and the one that is kept."""
+    def __init__(self):
+        self.run = self.kept = Run()
+
+    def open(self, numbers):
+        try:
+            self.run = opened(numbers)
+            return 'ok'
+        except Refused as no:
+            self.run = Run()
+            return 'refused %d %d' % no.args
+
+    def answer(self, operation, index, value):
+        if operation in CALLS:
+            answer, self.run = called(self.run, operation, index, value)
+            return answer
+        if operation == SAVE:
+            self.kept = self.run
+        elif operation == BACK:
+            self.run = self.kept
+        elif operation != DUMP:
+            after = poked(self.run, operation, index, value)
+            if after is None:
+                return 'unknown'
+            self.run = after
+        return 'ok'
+
+def answers(data):
+    desk, at, place = Desk(), 0, 0
+    while at < len(data):
+        length = RECORD + (SHOW if data[at:at + 8] == bytes(8) else 0)
+        if len(data) - at < length:
+            yield 'short'
+            return
+        operation, index, value = struct.unpack_from('<3Q', data, at)
+        said = desk.answer(operation, index, value) if operation != OPEN else desk.open(struct.unpack_from('<100I', data, at + RECORD))
+        yield '%d %s %d' % (place, said, checksum(desk.run))
+        if operation == DUMP:
+            yield from dumped(desk.run)
+        at, place = at + length, place + 1
+
+def main():
+    for line in answers(sys.stdin.buffer.read()):
+        print(line)
+
+if __name__ == '__main__':
+    main()
