@@ -1,10 +1,6 @@
--- What each call on a run answers: docs/RULES.md, section 9.
-use Prim.Native.Nat.{ℕ, _-_, _≤_}
-use mathlib.Core.Path.{_≡_}
-use mathlib.Core.Bool.{true, false}
-use mathlib.Core.Logic.{ite}
-use native.Mathlib.Decide.{decLe, decLt, ℕ-discrete}
-use Rattle.drive.specs.declared.refusal.Refusal.{Refusal}
+-- What each call answers: docs/RULES.md, section 9.
+use Prim.Native.Nat.{ℕ, _-_}
+use native.Mathlib.Decide.{decLe, decLt}
 use Rattle.drive.specs.declared.refusal.Refusal.the-variants as refusal
 use Rattle.drive.specs.declared.refusal.Check.{Check}
 use Rattle.drive.specs.declared.refusal.Check.the-variants.{Within, Refused}
@@ -12,17 +8,10 @@ use Rattle.drive.specs.Checks.{unless, first}
 use Rattle.run.specs.declared.Underway.{Underway}
 use Rattle.run.specs.declared.Underway.the-variants as underway
 use Rattle.run.specs.declared.Run.{Run}
-use Rattle.run.specs.Run.{playing, stateAt, seatAt, onward, PutAt}
-use Rattle.run.specs.Decisions.{sound?, true?, put?}
-use Rattle.run.specs.Steps.{passed, taken, skipped, idled, begun, landed}
+use Rattle.run.specs.Run.{playing, stateAt}
+use Rattle.run.specs.Decisions.{true?, soundCheck}
+use Rattle.run.specs.Steps.{passed, taken, landed}
 use Rattle.playback.specs.declared.Moved.{Moved}
-use Rattle.playback.specs.declared.Choice.{Choice}
-use Rattle.playback.specs.declared.Choice.the-variants as choice
-use Rattle.playback.specs.declared.Chosen.{Chosen}
-
--- 19
-abbrev pub soundCheck : Run → Check
-soundCheck r = unless (sound? r) refusal.Damaged
 
 -- Granted, the next run; refused, the run that was given.
 abbrev pub moved : Check → Run → Run → Moved
@@ -62,39 +51,6 @@ takeCheck r i n = first (soundCheck r) (first (sessionCheck r i) (first (startCh
 
 unfoldable pub takeOf : Run → ℕ → ℕ → Moved
 takeOf r i n = moved (takeCheck r i n) r (taken r i n)
-
--- ---- choose
-
-abbrev pub chosen : Choice → Run → Chosen
-chosen c r = record { choice = c; run = r }
-
--- the session arrived at when k were skipped: 14, with the run as it was, if one more block would pass the limit on P
-unfoldable pub arrived : Run → ℕ → Chosen
-arrived r k =
-    ite (put? r (seatAt r (onward r k))) (chosen (choice.Read (seatAt r (onward r k))) (begun r k))
-    (chosen (choice.Refused refusal.PutLimit) r)
-
--- Idle if everyone is skipped; an empty show is Idle, and stays as it is.
-unfoldable pub nextOf : Run → Chosen
-nextOf r =
-    ite (ℕ-discrete (playing r) 0) (chosen choice.Idle r)
-    (ite (decLt (skipped r) (playing r)) (arrived r (skipped r)) (chosen choice.Idle (idled r)))
-
--- 13: a read is under way
-abbrev pub freeCheck : Underway → Check
-freeCheck underway.Nothing = Within
-freeCheck (underway.Read i) = Refused refusal.ReadUnderway
-
--- 19, 13
-unfoldable pub chooseCheck : Run → Check
-chooseCheck r = first (soundCheck r) (freeCheck (r .underway))
-
-abbrev pub chosenBy : Check → Run → Chosen
-chosenBy Within r = nextOf r
-chosenBy (Refused w) r = chosen (choice.Refused w) r
-
-unfoldable pub chooseOf : Run → Chosen
-chooseOf r = chosenBy (chooseCheck r) r
 
 -- ---- finish
 

@@ -1,4 +1,5 @@
-// The calls on a run: pass, take, choose, finish. Each tests the run record first and hands the run back if it refuses.
+// What goes on in a run: time passes, players take, reads are finished. Each call tests the run record first, and hands the run back if it
+// refuses.
 mod cycle;
 
 ghost use mathlib.Core.Path.{_≡_};
@@ -6,11 +7,8 @@ ghost use Prim.Native.Nat.{_-_, _*_, _≤_, _<_};
 ghost use Rattle.run.specs.Run.{stateAt, putMost};
 ghost use Rattle.run.specs.Sound.{SoundRun};
 ghost use Rattle.run.specs.Steps.{ticked, passed, taken};
-ghost use Rattle.playback.specs.Answers.{passOf, takeOf, finishOf, chooseOf};
-use crate::cycle::arrive;
-use crate::cycle::idle;
+ghost use Rattle.playback.specs.Answers.{passOf, takeOf, finishOf};
 use crate::cycle::land;
-use crate::cycle::skips;
 use drive::refusal::Check;
 use drive::refusal::Refusal;
 use run::Run;
@@ -22,19 +20,6 @@ use run::sound::test_run;
 // What a call answers, and the run after it: the next one, or the one that was given.
 pub struct Moved {
     pub check: Check,
-    pub run: Run,
-}
-
-// What to read next.
-pub enum Choice {
-    Idle,
-    Read(usize),
-    Refused(Refusal),
-}
-
-// The choice, and the run after it.
-pub struct Chosen {
-    pub choice: Choice,
     pub run: Run,
 }
 
@@ -143,39 +128,6 @@ pub fn take(run: Run, session: usize, n: u64) -> Moved
         check: Check::Within,
         run: draw(run, session, n),
     }
-}
-
-// The next read, which is then under way, or Idle: 19, 13, 14.
-pub fn choose(run: Run) -> Chosen
-    ensures { λ r. ⌜ r ≡ chooseOf run ⌝ }
-{
-    let Test::Sound = test_run(run) else {
-        return Chosen {
-            choice: Choice::Refused(Refusal::Damaged),
-            run,
-        };
-    };
-    let underway = run.underway;
-    let Underway::Nothing = underway else {
-        return Chosen {
-            choice: Choice::Refused(Refusal::ReadUnderway),
-            run,
-        };
-    };
-    if run.show.playing == 0 {
-        return Chosen {
-            choice: Choice::Idle,
-            run,
-        };
-    }
-    let skipped = skips(run);
-    if run.show.playing <= skipped {
-        return Chosen {
-            choice: Choice::Idle,
-            run: idle(run),
-        };
-    }
-    arrive(run, skipped)
 }
 
 // The read under way has come, after d µs: 19, 11, 17.

@@ -4,6 +4,7 @@ pub mod Opening
 pub mod Changed
 pub mod Searches
 pub mod Steps
+pub mod Seats
 pub mod Named
 pub mod Tests
 pub mod Begins

@@ -6,7 +6,7 @@ use mathlib.Core.List.{List}
 use native.Mathlib.Decide.{decLt, ℕ-discrete}
 use native.Mathlib.Omega.{arith}
 use lib.ListN.{getD}
-use Rattle.run.specs.Sound.{NamedOnce, NamesEach}
+use Rattle.run.specs.Sound.{NamesEach}
 
 -- The n places name numbers below n, no two the same.
 record Apart (f : ℕ → ℕ) (n : ℕ) : Type 0 where

@@ -7,7 +7,12 @@ use mathlib.Core.Logic.{if-pos, if-neg}
 use native.Mathlib.Omega.{arith}
 use borrow.Author.Count.{below-more}
 use Rattle.drive.specs.declared.Show.{Show}
+use Rattle.drive.specs.declared.refusal.Refusal.the-variants.{Damaged}
+use Rattle.drive.specs.declared.refusal.Check.{Check}
+use Rattle.drive.specs.declared.refusal.Check.the-variants.{Refused}
+use Rattle.drive.specs.Checks.{first}
 use Rattle.drive.specs.Limits.{Tells, ShowWithin}
+use Rattle.drive.proofs.Checks.{unless-kept, unless-broken, first-refused, first-within}
 use Rattle.theory.specs.Counts.{Good}
 use Rattle.theory.specs.Shows.{loadOf}
 use Rattle.verdict.specs.declared.Answer.the-variants as answer
@@ -21,7 +26,7 @@ use Rattle.run.proofs.Steps.{nothing-read}
 use Rattle.run.specs.Sound.{StateSound, StatesSound, Resting, Turning, MayRead, CycleSound, SoundRun}
 use Rattle.run.specs.declared.sound.Test.{Test}
 use Rattle.run.specs.declared.sound.Test.the-variants as test
-use Rattle.run.specs.Decisions.{sound?, testOf}
+use Rattle.run.specs.Decisions.{sound?, testOf, soundCheck}
 
 -- ---- the counts
 
@@ -125,3 +130,12 @@ tested-sound r t e f =
 
 pub tested-damaged : (r : Run) (t : Test) → t ≡ testOf r → t ≡ test.Damaged → SoundRun r → ⊥
 tested-damaged r t e f s = sound-damaged (test-sound r s ∙ sym e ∙ f)
+
+-- ---- 19 comes first
+
+module _ (r : Run) (c : Check) where
+  pub damaged-first : (SoundRun r → ⊥) → first (soundCheck r) c ≡ Refused Damaged
+  damaged-first n = first-refused _ c (unless-broken (sound? r) Damaged n)
+
+  pub sound-then : SoundRun r → first (soundCheck r) c ≡ c
+  sound-then s = first-within _ c (unless-kept (sound? r) Damaged s)

@@ -10,6 +10,9 @@ use native.Mathlib.Omega.{arith}
 use lib.ListN.{getD}
 use Rattle.drive.specs.declared.Session.{Session}
 use Rattle.drive.specs.declared.Show.{Show}
+use Rattle.drive.specs.declared.refusal.Refusal.the-variants.{Damaged}
+use Rattle.drive.specs.declared.refusal.Check.{Check}
+use Rattle.drive.specs.Checks.{unless}
 use Rattle.drive.specs.Limits.{ShowWithin, layoutAt, sessionAt}
 use Rattle.drive.specs.Decisions.{decided, between?, counts?, drive?, layout?, session?}
 use Rattle.theory.specs.Counts.{Load, Good}
@@ -21,8 +24,8 @@ use Rattle.run.specs.declared.Underway.the-variants.{Nothing, Read}
 use Rattle.run.specs.declared.Run.{Run}
 use Rattle.run.specs.declared.sound.Test.{Test}
 use Rattle.run.specs.declared.sound.Test.the-variants as test
-use Rattle.run.specs.Run.{playing, clipAt, stateAt, seatAt, wholeAt, PutAt, RoomAt}
-use Rattle.run.specs.Sound.{Waiting, StateSound, NamedOnce, NamesEach, Turning, Resting, MayRead, CycleSound, SoundRun}
+use Rattle.run.specs.Run.{playing, clipAt, stateAt, PutAt, RoomAt}
+use Rattle.run.specs.Sound.{Waiting, StateSound, NamedOnce, Turning, Resting, MayRead, CycleSound, SoundRun}
 
 -- ---- of statements
 
@@ -147,3 +150,7 @@ sound? r =
 -- what the test of a record answers
 abbrev pub testOf : Run → Test
 testOf r = ite (sound? r) test.Sound test.Damaged
+
+-- 19
+abbrev pub soundCheck : Run → Check
+soundCheck r = unless (sound? r) Damaged

@@ -1,9 +1,9 @@
 -- The places of a run, and a run with some of its parts changed: docs/RULES.md, section 9.
-use Prim.Native.Nat.{ℕ, _+_, _%_, _≤_}
+use Prim.Native.Nat.{ℕ, _+_, _%_, _≤_, _<_}
 use mathlib.Core.List.{List}
 use lib.ListN.{getD}
 use Rattle.drive.specs.declared.Session.{Session}
-use Rattle.drive.specs.Limits.{sessionAt}
+use Rattle.drive.specs.Limits.{Between, sessionAt}
 use Rattle.run.specs.declared.State.{State}
 use Rattle.run.specs.declared.Underway.{Underway}
 use Rattle.run.specs.declared.Run.{Run}
@@ -50,6 +50,12 @@ putMost = 1099511627776
 
 abbrev pub PutAt : Run → ℕ → Type 0
 PutAt r i = stateAt r i .put + r .show .drive .block ≤ putMost
+
+-- A cycle that is somewhere, each of whose places names a session.
+pub record Seated (r : Run) : Type 0 where
+  pub some : Between 1 (playing r) 16
+  pub place : r .place < playing r
+  pub seats : (k : ℕ) → k < playing r → seatAt r k < playing r
 
 -- other states, all else as it was
 abbrev pub withStates : Run → List State → Run

@@ -5,7 +5,6 @@ use mathlib.Core.Logic.{ite}
 use mathlib.Core.List.{List}
 use native.Mathlib.Decide.{decLe}
 use lib.ListN.{getD, set}
-use Rattle.drive.specs.declared.Session.{Session}
 use Rattle.run.specs.declared.State.{State}
 use Rattle.run.specs.declared.Underway.the-variants.{Nothing, Read}
 use Rattle.run.specs.declared.Run.{Run}

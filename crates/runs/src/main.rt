@@ -37,10 +37,10 @@ use crate::told::say;
 use drive::Show;
 use drive::refusal::Check;
 use libc::STDIN_FILENO;
-use playback::Choice;
-use playback::Chosen;
 use playback::Moved;
 use run::Run;
+use scheduler::Choice;
+use scheduler::Chosen;
 
 // The run that the calls are on, and the kept one.
 struct Desk {
@@ -170,7 +170,7 @@ fn call(asked: Asked, run: Run) -> Run {
     match operation {
         1 => moved(playback::pass(run, asked.value)),
         2 => moved(playback::take(run, asked.index, asked.value)),
-        3 => chosen(playback::choose(run)),
+        3 => chosen(scheduler::choose(run)),
         4 => moved(playback::finish(run, asked.value)),
         7 => {
             say(b" ok");

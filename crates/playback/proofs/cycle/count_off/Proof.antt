@@ -1,7 +1,8 @@
 -- `count_off` counts a block off, or goes on to the next session. Assumes nothing.
 use mathlib.Core.Path.{_∙_}
 use native.Mathlib.Omega.{arith}
-use Rattle.playback.proofs.Cycles.{onward-few, ahead-few, counts-fewer, counts-on}
+use Rattle.run.proofs.Seats.{onward-few, ahead-few}
+use Rattle.playback.proofs.Cycles.{counts-fewer, counts-on}
 use borrow.Author.Needs.{needs}
 use borrow.Author.Needs.{needs}
 use Rattle.playback.proofs.cycle.count_off.Statement.{statement}

@@ -3,7 +3,7 @@ use Prim.Native.Nat.{_<_}
 use native.Mathlib.Omega.{arith}
 use Rattle.run.specs.Steps.{landed}
 use Rattle.run.proofs.Steps.{read-below}
-use Rattle.playback.proofs.Cycles.{sound-seated, stored-seated}
+use Rattle.run.proofs.Seats.{sound-seated, stored-seated}
 use borrow.Author.Needs.{needs}
 use borrow.Author.Needs.{needs}
 use Rattle.playback.proofs.cycle.land.Statement.{statement}

@@ -1,12 +1,12 @@
 -- `idle` gives the place its whole count again. Assumes nothing.
 use native.Mathlib.Omega.{arith}
 use Rattle.run.specs.Steps.{idled}
-use Rattle.playback.proofs.Cycles.{seat-few}
+use Rattle.run.proofs.Seats.{seat-few}
 use mathlib.Core.Path.{refl}
 use borrow.Author.Needs.{needs}
 use borrow.Author.Needs.{needs}
-use Rattle.playback.proofs.cycle.idle.Statement.{statement}
-use Rattle.playback.proofs.cycle.idle.Tie as tie
+use Rattle.scheduler.proofs.idle.Statement.{statement}
+use Rattle.scheduler.proofs.idle.Tie as tie
 
 mul-seat : tie.Need-mul-seat
 mul-seat c = search needs

@@ -1,14 +1,14 @@
 -- `choose` answers the next read, or Idle. Assumes nothing.
-use mathlib.Core.Path.{_∙_, sym, ap}
+use mathlib.Core.Path.{_∙_, ap}
 use native.Mathlib.Omega.{arith}
-use Rattle.playback.specs.Answers.{arrived}
+use Rattle.scheduler.specs.Answers.{arrived}
 use Rattle.run.proofs.Tests.{tested-sound, tested-damaged}
-use Rattle.playback.proofs.Cycles.{sound-seated}
-use Rattle.playback.proofs.Calls.{choose-damaged, choose-busy, choose-empty, choose-idle, choose-next}
+use Rattle.run.proofs.Seats.{sound-seated}
+use Rattle.scheduler.proofs.Calls.{choose-damaged, choose-busy, choose-empty, choose-idle, choose-next}
 use borrow.Author.Needs.{needs}
 use borrow.Author.Needs.{needs}
-use Rattle.playback.proofs.choose.Statement.{statement}
-use Rattle.playback.proofs.choose.Tie as tie
+use Rattle.scheduler.proofs.choose.Statement.{statement}
+use Rattle.scheduler.proofs.choose.Tie as tie
 
 test-run-requires : tie.Need-test-run-requires
 test-run-requires c κs = search needs

@@ -1,13 +1,13 @@
 -- `skips` counts those without room. Invariant: the first k have none; what falls: playing - k. Assumes nothing.
 use Prim.Native.Nat.{_-_}
 use native.Mathlib.Omega.{arith}
-use borrow.Author.Tests.{not-true, not-false}
 use Rattle.drive.proofs.Checks.{tells-yes, tells-no}
-use Rattle.playback.specs.Steps.{Seated}
-use Rattle.playback.proofs.Cycles.{sound-seated, onward-few, ahead-few, SkippedTo, skips-none, skips-more, skips-found, skips-all}
+use Rattle.run.specs.Run.{Seated}
+use Rattle.run.proofs.Seats.{sound-seated, onward-few, ahead-few}
+use Rattle.scheduler.proofs.Cycles.{SkippedTo, skips-none, skips-more, skips-found, skips-all}
 use borrow.Author.Needs.{needs}
-use Rattle.playback.proofs.cycle.skips.Statement.{statement}
-use Rattle.playback.proofs.cycle.skips.Tie as tie
+use Rattle.scheduler.proofs.skips.Statement.{statement}
+use Rattle.scheduler.proofs.skips.Tie as tie
 
 abbrev Inv-loop : tie.InvT-loop
 Inv-loop run show playing k₀ k = SkippedTo run k

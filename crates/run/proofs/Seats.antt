@@ -1,0 +1,37 @@
+-- The places of a cycle and their sessions, in numbers that arrays of sixteen take. Assumes nothing.
+use Prim.Native.Nat.{ℕ, _≤_, _<_}
+use mathlib.Core.List.{List}
+use native.Mathlib.Omega.{arith}
+use Rattle.run.specs.declared.State.{State}
+use Rattle.run.specs.declared.Run.{Run}
+use Rattle.run.specs.Run.{playing, stateAt, seatAt, onward, putMost, withStates, Seated}
+use Rattle.run.specs.Sound.{SoundRun}
+use Rattle.run.proofs.Steps.{onward-below, seat-below}
+
+-- A sound run of somebody is somewhere in its cycle.
+pub sound-seated : (r : Run) → SoundRun r → 0 < playing r → Seated r
+sound-seated r s l =
+    record {
+      some = record { low = l; high = s .within .counts .sessions };
+      place = s .cycle .turning l .place;
+      seats = seat-below r s;
+    }
+
+-- Where the states do not matter.
+pub stored-seated : (r : Run) (l : List State) → Seated r → Seated (withStates r l)
+stored-seated r l h = record { some = h .some; place = h .place; seats = h .seats }
+
+module _ (r : Run) (h : Seated r) where
+  pub onward-few : (k : ℕ) → onward r k < 16
+  onward-few k = let b = onward-below r k (h .some .low) in let n = h .some .high in omega arith
+
+  pub seat-few : (k : ℕ) → k < playing r → seatAt r k < 16
+  seat-few k l = let b = h .seats k l in let n = h .some .high in omega arith
+
+  pub ahead-few : (k : ℕ) → seatAt r (onward r k) < 16
+  ahead-few k = seat-few (onward r k) (onward-below r k (h .some .low))
+
+-- P of a session some places on is within its limit.
+pub ahead-put : (r : Run) → SoundRun r → Seated r → (k : ℕ) → stateAt r (seatAt r (onward r k)) .put ≤ putMost
+ahead-put r s h k =
+    s .states (seatAt r (onward r k)) (h .seats (onward r k) (onward-below r k (h .some .low))) .put
