@@ -1,20 +1,12 @@
 -- A session of a sound run that has no room is more than a round ahead of its cushion. Assumes nothing.
 use Prim.Native.Nat.{ℕ, _+_, _*_, _≤_, _<_}
 use native.Mathlib.Omega.{arith}
-use Rattle.theory.specs.Counts.{roundTime}
-use Rattle.theory.specs.Shows.{loadOf}
-use Rattle.verdict.specs.Answers.{setOf}
 use Rattle.run.specs.declared.Run.{Run}
-use Rattle.run.specs.Run.{playing, stateAt, clipAt, RoomAt}
+use Rattle.run.specs.Run.{playing, RoomAt}
 use Rattle.run.specs.Sound.{SoundRun}
 use Rattle.run.specs.Steps.{skipped}
+use Rattle.run.specs.Laws.{Ahead}
 use Rattle.run.proofs.Searches.{nobody}
-
--- P is above what R x L, Y and C come to, all in microbytes: the workahead is above L.
-abbrev pub Ahead : Run → ℕ → Type 0
-Ahead r i =
-    clipAt r i .rate * roundTime (loadOf (r .show)) (setOf (r .counts)) + (clipAt r i .cushion * 1000000 + stateAt r i .clock)
-    < stateAt r i .put * 1000000
 
 -- No room for a block more means that M blocks and the cushion are there and more: a round takes less than M blocks.
 past :

@@ -1,31 +1,35 @@
 -- What no step changes: the show, the counts, the order, the start, and the places that do not play. Assumes nothing.
 use Prim.Native.Nat.{ℕ, _≤_, _<_}
-use mathlib.Core.Path.{_≡_, refl}
+use mathlib.Core.Path.{_≡_, refl, sym, subst, _∙_}
 use mathlib.Core.Bool.{Bool, true, false}
 use mathlib.Core.List.{List}
 use native.Mathlib.Decide.{decLe}
 use native.Mathlib.Omega.{arith}
 use lib.ListN.{length, getD, set, length-set}
 use lib.Seq.{getD-set-other}
+use Rattle.drive.specs.declared.Show.{Show}
 use Rattle.run.specs.declared.State.{State}
 use Rattle.run.specs.declared.Underway.{Underway}
 use Rattle.run.specs.declared.Run.{Run}
 use Rattle.run.specs.Run.{playing, noState, stateAt, withStates, withCycle}
 use Rattle.run.specs.Steps.{tickedAt, statesAfter, passed, taken, idled, begun, stored, counted, landed}
+use Rattle.run.specs.Laws.{Kept}
 use Rattle.run.proofs.Changed.{changed-length, changed-above}
-use Rattle.run.proofs.Steps.{chosen}
+use Rattle.run.proofs.Steps.{ite-either}
 
--- q is r but for states that play and the moment of the cycle.
-pub record Kept (r q : Run) : Type 0 where
-  pub show : q .show ≡ r .show
-  pub counts : q .counts ≡ r .counts
-  pub order : q .order ≡ r .order
-  pub started : q .started ≡ r .started
-  pub states : (i : ℕ) → playing r ≤ i → stateAt q i ≡ stateAt r i
-  pub sized : length (q .states) ≡ length (r .states)
-
-same-kept : (r : Run) → Kept r r
+pub same-kept : (r : Run) → Kept r r
 same-kept r = record { show = refl; counts = refl; order = refl; started = refl; states = λ i h. refl; sized = refl }
+
+pub kept-then : (r p q : Run) → Kept r p → Kept p q → Kept r q
+kept-then r p q a b =
+    record {
+      show = b .show ∙ a .show;
+      counts = b .counts ∙ a .counts;
+      order = b .order ∙ a .order;
+      started = b .started ∙ a .started;
+      states = λ i h. b .states i (subst (λ (x : Show). x .playing ≤ i) (sym (a .show)) h) ∙ a .states i h;
+      sized = b .sized ∙ a .sized;
+    }
 
 module _ (r : Run) where
   -- other states that play
@@ -76,4 +80,4 @@ module _ (r : Run) where
   unfolding landed counted
   landed-kept i l =
       let k = set-kept i _ l in
-      chosen (Kept r) (decLe (r .left) 1) _ _ (λ b. cycle-kept (stored r i) _ _ _ k) (λ b. cycle-kept (stored r i) _ _ _ k)
+      ite-either (Kept r) (decLe (r .left) 1) _ _ (λ b. cycle-kept (stored r i) _ _ _ k) (λ b. cycle-kept (stored r i) _ _ _ k)

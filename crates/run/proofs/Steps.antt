@@ -26,10 +26,10 @@ use Rattle.run.proofs.Changed.{changed-below, set-each}
 pub nothing-read : {X : Type 0} {i : ℕ} → Nothing ≡ Read i → X
 nothing-read e = let z : _≡_ {A = ℕ} 0 1 = cc in absurd (let f : ⊥ = omega arith in f)
 
--- by cases on what is chosen
-pub chosen : {A Q : Type 0} (P : A → Type 0) (d : Dec Q) (a b : A) → (Q → P a) → ((Q → ⊥) → P b) → P (ite d a b)
-chosen P (yes h) a b f g = f h
-chosen P (no h) a b f g = g h
+-- what holds either way
+pub ite-either : {A Q : Type 0} (P : A → Type 0) (d : Dec Q) (a b : A) → (Q → P a) → ((Q → ⊥) → P b) → P (ite d a b)
+ite-either P (yes h) a b f g = f h
+ite-either P (no h) a b f g = g h
 
 -- ---- of one session
 
@@ -217,7 +217,7 @@ pub landed-sound :
     (r : Run) (i : ℕ) → playing r ≤ length (r .states) → SoundRun r → r .underway ≡ Read i → SoundRun (landed r i)
 unfolding landed counted
 landed-sound r i n s e =
-    chosen SoundRun (decLe (r .left) 1) _ _
+    ite-either SoundRun (decLe (r .left) 1) _ _
     (λ l. moved-sound r s _ (onward r 1) _ Nothing states next (whole r s (onward r 1) next) (λ k f. nothing-read f))
     (λ l. moved-sound r s _ (r .place) _ Nothing states (cycle .place) (fewer l) (λ k f. nothing-read f))
   where

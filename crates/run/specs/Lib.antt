@@ -3,3 +3,4 @@ pub mod Sound
 pub mod Decisions
 pub mod Steps
 pub mod Opening
+pub mod Laws

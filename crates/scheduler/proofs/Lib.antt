@@ -1,2 +1,3 @@
 pub mod Cycles
 pub mod Calls
+pub mod Laws
