@@ -3,3 +3,4 @@ pub mod Trips
 pub mod Verdict
 pub mod Lighter
 pub mod Reports
+pub mod Runs
