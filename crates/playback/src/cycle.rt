@@ -1,31 +1,11 @@
 // The cycle, when a block has come.
 ghost use mathlib.Core.Path.{_≡_};
 ghost use Rattle.run.specs.declared.Underway.the-variants.{Read};
-ghost use Rattle.run.specs.Run.{withCycle, Seated};
+ghost use Rattle.run.specs.Seats.{Seated};
 ghost use Rattle.run.specs.Sound.{SoundRun};
 ghost use Rattle.run.specs.Steps.{counted, landed};
 use run::Run;
 use run::Underway;
-
-// Another moment of the cycle, all else as it was.
-fn with_cycle(run: Run, place: usize, left: u32, underway: Underway) -> Run
-    ensures { λ r. ⌜ r ≡ withCycle run place left underway ⌝ }
-{
-    let show = run.show;
-    let counts = run.counts;
-    let states = run.states;
-    let order = run.order;
-    Run {
-        show,
-        counts,
-        states,
-        order,
-        place,
-        left,
-        underway,
-        started: run.started,
-    }
-}
 
 // One block fewer is left; at none left the next session's whole count.
 fn count_off(run: Run) -> Run
@@ -33,11 +13,11 @@ fn count_off(run: Run) -> Run
     ensures { λ r. ⌜ r ≡ counted run ⌝ }
 {
     if 1 < run.left {
-        return with_cycle(run, run.place, run.left - 1, Underway::Nothing);
+        return run.with_cycle(run.place, run.left - 1, Underway::Nothing);
     }
     let place = (run.place + 1) % run.show.playing;
     let seat = run.order[place] as usize;
-    with_cycle(run, place, run.counts[seat], Underway::Nothing)
+    run.with_cycle(place, run.counts[seat], Underway::Nothing)
 }
 
 // A block has come for the session.

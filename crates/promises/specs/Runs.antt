@@ -55,5 +55,5 @@ pub record Runs : Type 0 where
   pub damaged-stays : (r : Run) → (SoundRun r → ⊥) → Stays r
   -- Unused places never change.
   pub after-kept : (r q : Run) → Sized r → After r q → Kept r q
-  -- Loaded until Idle, every session has a workahead above L: more than any order of the round takes.
+  -- Loaded until Idle, every session has a workahead above L.
   pub idle-ahead : (r : Run) → SoundRun r → chooseOf r .choice ≡ choice.Idle → (i : ℕ) → i < playing r → Ahead r i

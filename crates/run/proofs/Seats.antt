@@ -4,7 +4,8 @@ use mathlib.Core.List.{List}
 use native.Mathlib.Omega.{arith}
 use Rattle.run.specs.declared.State.{State}
 use Rattle.run.specs.declared.Run.{Run}
-use Rattle.run.specs.Run.{playing, stateAt, seatAt, onward, putMost, withStates, Seated}
+use Rattle.run.specs.Run.{playing, stateAt, seatAt, onward, putMost, withStates}
+use Rattle.run.specs.Seats.{Seated}
 use Rattle.run.specs.Sound.{SoundRun}
 use Rattle.run.proofs.Steps.{onward-below, seat-below}
 

@@ -4,3 +4,4 @@ pub mod Decisions
 pub mod Steps
 pub mod Opening
 pub mod Laws
+pub mod Seats

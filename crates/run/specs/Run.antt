@@ -1,9 +1,10 @@
 -- The places of a run, and a run with some of its parts changed: docs/RULES.md, section 9.
-use Prim.Native.Nat.{ℕ, _+_, _%_, _≤_, _<_}
+use Prim.Native.Nat.{ℕ, _+_, _%_, _≤_}
 use mathlib.Core.List.{List}
 use lib.ListN.{getD}
 use Rattle.drive.specs.declared.Session.{Session}
-use Rattle.drive.specs.Limits.{Between, sessionAt}
+use Rattle.drive.specs.Limits.{sessionAt}
+use Rattle.verdict.specs.Answers.{setOf}
 use Rattle.run.specs.declared.State.{State}
 use Rattle.run.specs.declared.Underway.{Underway}
 use Rattle.run.specs.declared.Run.{Run}
@@ -24,7 +25,7 @@ clipAt r i = sessionAt (r .show) i
 
 -- M of a session
 abbrev pub countAt : Run → ℕ → ℕ
-countAt r i = getD (r .counts) i 0
+countAt r i = setOf (r .counts) i
 
 -- the session at a place of the cycle, and its whole count
 abbrev pub seatAt : Run → ℕ → ℕ
@@ -50,12 +51,6 @@ putMost = 1099511627776
 
 abbrev pub PutAt : Run → ℕ → Type 0
 PutAt r i = stateAt r i .put + r .show .drive .block ≤ putMost
-
--- A cycle that is somewhere, each of whose places names a session.
-pub record Seated (r : Run) : Type 0 where
-  pub some : Between 1 (playing r) 16
-  pub place : r .place < playing r
-  pub seats : (k : ℕ) → k < playing r → seatAt r k < playing r
 
 -- other states, all else as it was
 abbrev pub withStates : Run → List State → Run

@@ -4,7 +4,7 @@ pub mod sound;
 ghost use mathlib.Core.Path.{_≡_};
 ghost use Prim.Native.Nat.{_≤_};
 ghost use Rattle.drive.specs.Limits.{Tells};
-ghost use Rattle.run.specs.Run.{Room};
+ghost use Rattle.run.specs.Run.{Room, withCycle};
 ghost use Rattle.run.specs.Sound.{Waiting, StateSound};
 ghost use Rattle.run.specs.Opening.{OpenIs, tableOrder, firstRun, noRun};
 use drive::Session;
@@ -105,6 +105,26 @@ pub struct Run {
 impl Run {
     // The longest time that one call lets pass, in µs.
     pub const SPAN_MOST: u64 = 1_000_000_000;
+
+    // Another moment of the cycle, all else as it was.
+    pub fn with_cycle(self, place: usize, left: u32, underway: Underway) -> Run
+        ensures { λ r. ⌜ r ≡ withCycle self place left underway ⌝ }
+    {
+        let show = self.show;
+        let counts = self.counts;
+        let states = self.states;
+        let order = self.order;
+        Run {
+            show,
+            counts,
+            states,
+            order,
+            place,
+            left,
+            underway,
+            started: self.started,
+        }
+    }
 }
 
 // A run that can begin, or why there is none; refused, the run is zeros.

@@ -1,12 +1,12 @@
--- `arrive` begins the read of the session after those skipped. Assumes nothing.
+-- `arrive` with-cycles the read of the session after those skipped. Assumes nothing.
 use native.Mathlib.Omega.{arith}
-use Rattle.run.specs.Run.{Seated}
+use Rattle.run.specs.Seats.{Seated}
 use Rattle.run.proofs.Seats.{sound-seated, onward-few, ahead-few, ahead-put}
 use Rattle.scheduler.proofs.Cycles.{arrives-late, arrives}
 use borrow.Author.Needs.{needs}
 use borrow.Author.Needs.{needs}
-use Rattle.scheduler.proofs.arrive.Statement.{statement}
-use Rattle.scheduler.proofs.arrive.Tie as tie
+use Rattle.scheduler.proofs.cycle.arrive.Statement.{statement}
+use Rattle.scheduler.proofs.cycle.arrive.Tie as tie
 
 seated : (c : tie.Start) → Seated (c .args .t1)
 seated c = sound-seated _ (c .pre .0) (let l = c .pre .1 in omega arith)
@@ -50,11 +50,11 @@ element-copy-out-left-after c = ahead-few _ (seated (c .before .before .before .
 left-after-requires : tie.Need-left-after-requires
 left-after-requires c κs = search needs
 
-begin-requires : tie.Need-begin-requires
-begin-requires c κs = search needs
+with-cycle-requires : tie.Need-with-cycle-requires
+with-cycle-requires c κs = search needs
 
 returns-2 : tie.Need-returns-2
-returns-2 c = arrives _ _ _ _ (c .before .before .before .if1 .left) (c .before .left-after .ensures) (c .begin .ensures)
+returns-2 c = arrives _ _ _ _ (c .before .before .before .if1 .left) (c .before .left-after .ensures) (c .with-cycle .ensures)
 
 pub arrive-spec : {M : Type 1} → statement M
 arrive-spec =
@@ -73,5 +73,5 @@ arrive-spec =
     mul-left-after
     element-copy-out-left-after
     left-after-requires
-    begin-requires
+    with-cycle-requires
     returns-2)

@@ -2,12 +2,12 @@
 use Prim.Native.Nat.{_-_}
 use native.Mathlib.Omega.{arith}
 use Rattle.drive.proofs.Checks.{tells-yes, tells-no}
-use Rattle.run.specs.Run.{Seated}
+use Rattle.run.specs.Seats.{Seated}
 use Rattle.run.proofs.Seats.{sound-seated, onward-few, ahead-few}
 use Rattle.scheduler.proofs.Cycles.{SkippedTo, skips-none, skips-more, skips-found, skips-all}
 use borrow.Author.Needs.{needs}
-use Rattle.scheduler.proofs.skips.Statement.{statement}
-use Rattle.scheduler.proofs.skips.Tie as tie
+use Rattle.scheduler.proofs.cycle.skips.Statement.{statement}
+use Rattle.scheduler.proofs.cycle.skips.Tie as tie
 
 abbrev Inv-loop : tie.InvT-loop
 Inv-loop run show playing k₀ k = SkippedTo run k

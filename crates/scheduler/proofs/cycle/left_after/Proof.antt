@@ -1,7 +1,7 @@
 -- `left_after` is the whole count exactly if any was skipped. Assumes nothing.
 use Rattle.scheduler.proofs.Cycles.{left-kept, left-whole}
-use Rattle.scheduler.proofs.left_after.Statement.{statement}
-use Rattle.scheduler.proofs.left_after.Tie as tie
+use Rattle.scheduler.proofs.cycle.left_after.Statement.{statement}
+use Rattle.scheduler.proofs.cycle.left_after.Tie as tie
 
 returns : tie.Need-returns
 returns c = left-whole _ _ _ (c .if1 .taken)

@@ -5,8 +5,8 @@ use Rattle.run.proofs.Seats.{seat-few}
 use mathlib.Core.Path.{refl}
 use borrow.Author.Needs.{needs}
 use borrow.Author.Needs.{needs}
-use Rattle.scheduler.proofs.idle.Statement.{statement}
-use Rattle.scheduler.proofs.idle.Tie as tie
+use Rattle.scheduler.proofs.cycle.idle.Statement.{statement}
+use Rattle.scheduler.proofs.cycle.idle.Tie as tie
 
 mul-seat : tie.Need-mul-seat
 mul-seat c = search needs

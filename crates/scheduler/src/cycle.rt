@@ -1,0 +1,76 @@
+// The cycle: who is skipped, and which read begins.
+ghost use mathlib.Core.Path.{_≡_};
+ghost use Prim.Native.Nat.{_<_};
+ghost use Rattle.run.specs.Seats.{Seated};
+ghost use Rattle.run.specs.Sound.{SoundRun};
+ghost use Rattle.run.specs.Steps.{skipped, idled, leftAfter};
+ghost use Rattle.scheduler.specs.Answers.{arrived};
+use crate::Choice;
+use crate::Chosen;
+use drive::refusal::Refusal;
+use run::Run;
+use run::State;
+use run::Underway;
+
+// How many sessions from the place on have no room, up to the first that has.
+pub(crate) fn skips(run: Run) -> usize
+    requires { ⌜ SoundRun run ⌝ }
+    ensures { λ r. ⌜ r ≡ skipped run ⌝ }
+{
+    let show = run.show;
+    let playing = show.playing;
+    let mut k: usize = 0;
+    while k < playing {
+        let at = (run.place + k) % playing;
+        let seat = run.order[at] as usize;
+        if run.states[seat].room(show.sessions[seat], show.drive.block) {
+            return k;
+        }
+        k += 1;
+    }
+    k
+}
+
+// Nobody has room: the place has its whole count left again.
+pub(crate) fn idle(run: Run) -> Run
+    requires { ⌜ Seated run ⌝ }
+    ensures { λ r. ⌜ r ≡ idled run ⌝ }
+{
+    let place = run.place;
+    let seat = run.order[place] as usize;
+    let mut next = run;
+    next.left = run.counts[seat];
+    next
+}
+
+// What is left where k were skipped: the whole count if any was.
+fn left_after(k: usize, left: u32, whole: u32) -> u32
+    ensures { λ r. ⌜ r ≡ leftAfter k left whole ⌝ }
+{
+    if 0 < k {
+        return whole;
+    }
+    left
+}
+
+// After k skipped, the read of the session there, unless it would pass the limit on P.
+pub(crate) fn arrive(run: Run, k: usize) -> Chosen
+    requires { ⌜ SoundRun run ⌝ }
+    requires { ⌜ k < run .show .playing ⌝ }
+    ensures { λ r. ⌜ r ≡ arrived run k ⌝ }
+{
+    let place = (run.place + k) % run.show.playing;
+    let seat = run.order[place] as usize;
+    let state = run.states[seat];
+    if State::PUT_MOST < state.put + run.show.drive.block as u64 {
+        return Chosen {
+            choice: Choice::Refused(Refusal::PutLimit),
+            run,
+        };
+    }
+    let left = left_after(k, run.left, run.counts[seat]);
+    Chosen {
+        choice: Choice::Read(seat),
+        run: run.with_cycle(place, left, Underway::Read(seat)),
+    }
+}
