@@ -1,11 +1,24 @@
 // The cycle, when a block has come.
 ghost use mathlib.Core.Path.{_≡_};
+ghost use Prim.Native.Nat.{_+_, _%_, _<_};
 ghost use Rattle.run.specs.declared.Underway.the-variants.{Read};
 ghost use Rattle.run.specs.Seats.{Seated};
 ghost use Rattle.run.specs.Sound.{SoundRun};
 ghost use Rattle.run.specs.Steps.{counted, landed};
 use run::Run;
 use run::Underway;
+
+// After the last place comes the first.
+fn place_after(place: usize, playing: usize) -> usize
+    requires { ⌜ place < playing ⌝ }
+    ensures { λ r. ⌜ r ≡ (place + 1) % playing ⌝ }
+{
+    let next = place + 1;
+    if next < playing {
+        return next;
+    }
+    0
+}
 
 // One block fewer is left; at none left the next session's whole count.
 fn count_off(run: Run) -> Run
@@ -15,7 +28,7 @@ fn count_off(run: Run) -> Run
     if 1 < run.left {
         return run.with_cycle(run.place, run.left - 1, Underway::Nothing);
     }
-    let place = (run.place + 1) % run.show.playing;
+    let place = place_after(run.place, run.show.playing);
     let seat = run.order[place] as usize;
     run.with_cycle(place, run.counts[seat], Underway::Nothing)
 }

@@ -61,6 +61,8 @@ pub(crate) fn arrive(run: Run, k: usize) -> Chosen
 {
     let place = (run.place + k) % run.show.playing;
     let seat = run.order[place] as usize;
+    let left = left_after(k, run.left, run.counts[seat]);
+    let next = run.with_cycle(place, left, Underway::Read(seat));
     let state = run.states[seat];
     if State::PUT_MOST < state.put + run.show.drive.block as u64 {
         return Chosen {
@@ -68,9 +70,8 @@ pub(crate) fn arrive(run: Run, k: usize) -> Chosen
             run,
         };
     }
-    let left = left_after(k, run.left, run.counts[seat]);
     Chosen {
         choice: Choice::Read(seat),
-        run: run.with_cycle(place, left, Underway::Read(seat)),
+        run: next,
     }
 }

@@ -48,8 +48,9 @@ pub fn choose(run: Run) -> Chosen
             run,
         };
     }
+    let playing = run.show.playing;
     let skipped = skips(run);
-    if run.show.playing <= skipped {
+    if playing <= skipped {
         return Chosen {
             choice: Choice::Idle,
             run: idle(run),

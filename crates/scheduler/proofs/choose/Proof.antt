@@ -1,9 +1,9 @@
 -- `choose` answers the next read, or Idle. Assumes nothing.
 use mathlib.Core.Path.{_∙_, ap}
 use native.Mathlib.Omega.{arith}
-use Rattle.scheduler.specs.Answers.{arrived}
 use Rattle.run.proofs.Tests.{tested-sound, tested-damaged}
 use Rattle.run.proofs.Seats.{sound-seated}
+use Rattle.scheduler.specs.Answers.{arrived}
 use Rattle.scheduler.proofs.Calls.{choose-damaged, choose-busy, choose-empty, choose-idle, choose-next}
 use borrow.Author.Needs.{needs}
 use borrow.Author.Needs.{needs}
@@ -38,16 +38,16 @@ skips-requires : tie.Need-skips-requires
 skips-requires c κs = (tested-sound _ _ (c .before .before .before .before .before .before .test-run .ensures) (c .before .before .before .before .enum-told .given .1))
 
 idle-requires : tie.Need-idle-requires
-idle-requires c κs = sound-seated _ (tested-sound _ _ (c .before .before .before .before .before .before .before .before .before .test-run .ensures) (c .before .before .before .before .before .before .before .enum-told .given .1)) (let n = c .before .before .before .if1 .left in omega arith)
+idle-requires c κs = sound-seated _ (tested-sound _ _ (c .before .before .before .before .before .before .before .before .test-run .ensures) (c .before .before .before .before .before .before .enum-told .given .1)) (let n = c .before .before .if1 .left in omega arith)
 
 returns-4 : tie.Need-returns-4
-returns-4 c = choose-idle _ (tested-sound _ _ (c .before .before .before .before .before .before .before .before .before .before .test-run .ensures) (c .before .before .before .before .before .before .before .before .enum-told .given .1)) (c .before .before .before .before .before .before .enum-told3 .given .1) (c .before .before .before .before .if1 .left) _ (let l = c .before .if2 .taken in let e = c .before .before .before .skips .ensures in omega arith) (c .idle .ensures)
+returns-4 c = choose-idle _ (tested-sound _ _ (c .before .before .before .before .before .before .before .before .before .test-run .ensures) (c .before .before .before .before .before .before .before .enum-told .given .1)) (c .before .before .before .before .before .enum-told3 .given .1) (c .before .before .before .if1 .left) _ (let l = c .before .if2 .taken in let e = c .before .before .skips .ensures in omega arith) (c .idle .ensures)
 
 arrive-requires : tie.Need-arrive-requires
-arrive-requires c κs = ((tested-sound _ _ (c .before .before .before .before .before .before .before .before .before .test-run .ensures) (c .before .before .before .before .before .before .before .enum-told .given .1)), c .if2 .left)
+arrive-requires c κs = ((tested-sound _ _ (c .before .before .before .before .before .before .before .before .test-run .ensures) (c .before .before .before .before .before .before .enum-told .given .1)), c .if2 .left)
 
 returns-5 : tie.Need-returns-5
-returns-5 c = choose-next _ (tested-sound _ _ (c .before .before .before .before .before .before .before .before .before .before .test-run .ensures) (c .before .before .before .before .before .before .before .before .enum-told .given .1)) (c .before .before .before .before .before .before .enum-told3 .given .1) (c .before .before .before .before .if1 .left) _ (let l = c .before .if2 .left in let e = c .before .before .before .skips .ensures in omega arith) (c .arrive .ensures ∙ ap (arrived _) (c .before .before .before .skips .ensures))
+returns-5 c = choose-next _ (tested-sound _ _ (c .before .before .before .before .before .before .before .before .before .test-run .ensures) (c .before .before .before .before .before .before .before .enum-told .given .1)) (c .before .before .before .before .before .enum-told3 .given .1) (c .before .before .before .if1 .left) _ (let l = c .before .if2 .left in let e = c .before .before .skips .ensures in omega arith) (c .arrive .ensures ∙ ap (arrived _) (c .before .before .skips .ensures))
 
 pub choose-spec : {M : Type 1} → statement M
 choose-spec =

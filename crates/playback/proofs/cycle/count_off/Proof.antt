@@ -17,32 +17,29 @@ with-cycle-requires c κs = search needs
 returns : tie.Need-returns
 returns c = c .with-cycle .ensures ∙ counts-fewer _ (c .before .if1 .taken)
 
-add-place : tie.Need-add-place
-add-place c = search needs
-
-rem-place : tie.Need-rem-place
-rem-place c = search needs
+place-after-requires : tie.Need-place-after-requires
+place-after-requires c κs = search needs
 
 mul-seat : tie.Need-mul-seat
-mul-seat c = let b = onward-few _ (c .before .pre) 1 in omega arith
+mul-seat c = let b = onward-few _ (c .before .before .pre) 1 in let e = c .place-after .ensures in omega arith
 
 element-copy-out-seat : tie.Need-element-copy-out-seat
-element-copy-out-seat c = onward-few _ (c .before .pre) 1
+element-copy-out-seat c = rw (c .place-after .ensures) (onward-few _ (c .before .before .pre) 1)
 
 cast-seat : tie.Need-cast-seat
 cast-seat c = search needs
 
 mul-with-cycle : tie.Need-mul-with-cycle
-mul-with-cycle c = let b = ahead-few _ (c .before .before .pre) 1 in omega arith
+mul-with-cycle c = rw (c .before .place-after .ensures) (let b = ahead-few _ (c .before .before .before .pre) 1 in omega arith)
 
 element-copy-out-with-cycle : tie.Need-element-copy-out-with-cycle
-element-copy-out-with-cycle c = ahead-few _ (c .before .before .pre) 1
+element-copy-out-with-cycle c = rw (c .before .place-after .ensures) (ahead-few _ (c .before .before .before .pre) 1)
 
 with-cycle-requires-2 : tie.Need-with-cycle-requires-2
 with-cycle-requires-2 c κs = search needs
 
 returns-2 : tie.Need-returns-2
-returns-2 c = c .with-cycle2 .ensures ∙ counts-on _ (c .before .before .before .if1 .left)
+returns-2 c = c .with-cycle2 .ensures ∙ counts-on _ _ (c .before .before .before .place-after .ensures) (c .before .before .before .before .if1 .left)
 
 pub count-off-spec : {M : Type 1} → statement M
 count-off-spec =
@@ -51,8 +48,7 @@ count-off-spec =
     sub-with-cycle
     with-cycle-requires
     returns
-    add-place
-    rem-place
+    place-after-requires
     mul-seat
     element-copy-out-seat
     cast-seat

@@ -1,4 +1,4 @@
--- `arrive` with-cycles the read of the session after those skipped. Assumes nothing.
+-- `arrive` begins the read of the session after those skipped. Assumes nothing.
 use native.Mathlib.Omega.{arith}
 use Rattle.run.specs.Seats.{Seated}
 use Rattle.run.proofs.Seats.{sound-seated, onward-few, ahead-few, ahead-put}
@@ -26,26 +26,11 @@ element-copy-out-seat c = onward-few _ (seated c) (c .args .k)
 cast-seat : tie.Need-cast-seat
 cast-seat c = search needs
 
-mul-state : tie.Need-mul-state
-mul-state c = let b = ahead-few _ (seated (c .before)) (c .before .args .k) in omega arith
-
-element-copy-out-state : tie.Need-element-copy-out-state
-element-copy-out-state c = ahead-few _ (seated (c .before)) (c .before .args .k)
-
-cast-if1 : tie.Need-cast-if1
-cast-if1 c = search needs
-
-add-if1 : tie.Need-add-if1
-add-if1 c = let p = ahead-put _ (c .before .before .before .pre .0) (seated (c .before .before .before)) (c .before .before .before .args .k) in omega arith
-
-returns : tie.Need-returns
-returns c = arrives-late _ _ (λ h. let l = c .if1 .taken in let f : ⊥ = omega arith in f)
-
 mul-left-after : tie.Need-mul-left-after
-mul-left-after c = let b = ahead-few _ (seated (c .before .before .before .before)) (c .before .before .before .before .args .k) in omega arith
+mul-left-after c = let b = ahead-few _ (seated (c .before)) (c .before .args .k) in omega arith
 
 element-copy-out-left-after : tie.Need-element-copy-out-left-after
-element-copy-out-left-after c = ahead-few _ (seated (c .before .before .before .before)) (c .before .before .before .before .args .k)
+element-copy-out-left-after c = ahead-few _ (seated (c .before)) (c .before .args .k)
 
 left-after-requires : tie.Need-left-after-requires
 left-after-requires c κs = search needs
@@ -53,8 +38,23 @@ left-after-requires c κs = search needs
 with-cycle-requires : tie.Need-with-cycle-requires
 with-cycle-requires c κs = search needs
 
+mul-state : tie.Need-mul-state
+mul-state c = let b = ahead-few _ (seated (c .before .before .before .before)) (c .before .before .before .before .args .k) in omega arith
+
+element-copy-out-state : tie.Need-element-copy-out-state
+element-copy-out-state c = ahead-few _ (seated (c .before .before .before .before)) (c .before .before .before .before .args .k)
+
+cast-if1 : tie.Need-cast-if1
+cast-if1 c = search needs
+
+add-if1 : tie.Need-add-if1
+add-if1 c = let p = ahead-put _ (c .before .before .before .before .before .before .pre .0) (seated (c .before .before .before .before .before .before)) (c .before .before .before .before .before .before .args .k) in omega arith
+
+returns : tie.Need-returns
+returns c = arrives-late _ _ (λ h. let l = c .if1 .taken in let f : ⊥ = omega arith in f)
+
 returns-2 : tie.Need-returns-2
-returns-2 c = arrives _ _ _ _ (c .before .before .before .if1 .left) (c .before .left-after .ensures) (c .with-cycle .ensures)
+returns-2 c = arrives _ _ _ _ (c .if1 .left) (c .before .before .before .before .left-after .ensures) (c .before .before .before .with-cycle .ensures)
 
 pub arrive-spec : {M : Type 1} → statement M
 arrive-spec =
@@ -65,13 +65,13 @@ arrive-spec =
     mul-seat
     element-copy-out-seat
     cast-seat
+    mul-left-after
+    element-copy-out-left-after
+    left-after-requires
+    with-cycle-requires
     mul-state
     element-copy-out-state
     cast-if1
     add-if1
     returns
-    mul-left-after
-    element-copy-out-left-after
-    left-after-requires
-    with-cycle-requires
     returns-2)
