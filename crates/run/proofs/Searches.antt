@@ -62,15 +62,6 @@ module _ {p : ℕ → Type 0} (d : (k : ℕ) → Dec (p k)) where
             ])
       ]
 
-  pub first-most : (k n : ℕ) → firstFrom d k n ≤ k + n
-  unfolding firstFrom
-  first-most k zero = omega arith
-  first-most k (suc n) =
-      elim (d k) [
-        | yes h ↦ (let e = first-here k n h in omega arith)
-        | no h ↦ (let e = first-next k n h in let g = first-most (k + 1) n in omega arith)
-      ]
-
 -- ---- who is skipped
 
 module _ (r : Run) where

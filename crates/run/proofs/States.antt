@@ -14,7 +14,7 @@ true-false e = let z : _≡_ {A = ℕ} 0 1 = cc in absurd (let f : ⊥ = omega a
 
 module _ (started : Bool) (x : Session) (s : State) where
   module _ (p : s .put ≤ putMost) (t : s .taken ≤ s .put) (h : s .put - s .taken ≤ x .buffer) (k : s .clock ≤ s .taken * 1000000) where
-    pub state-sound : (started ≡ false → Waiting s) → StateSound started x s
+    state-sound : (started ≡ false → Waiting s) → StateSound started x s
     state-sound w = record { put = p; taken = t; held = omega arith; clock = k; early = w }
 
     -- once started nobody waits

@@ -91,7 +91,7 @@ module _ (r : Run) (s : SoundRun r) where
   seat-below k l = names-below (r .order) (playing r) (s .order) k l
 
   -- no count is 0
-  pub whole-some : (k : ℕ) → k < playing r → 1 ≤ wholeAt r k
+  whole-some : (k : ℕ) → k < playing r → 1 ≤ wholeAt r k
   whole-some k l = s .counts .counted (seatAt r k) (seat-below k l)
 
   whole : (k : ℕ) → k < playing r → Between 1 (wholeAt r k) (wholeAt r k)

@@ -12,11 +12,13 @@ use drive::Session;
 use verdict::Answer;
 use verdict::tried;
 
+// What the test of a record tells.
 pub enum Test {
     Sound,
     Damaged,
 }
 
+// Damaged exactly if a line of docs/RULES.md, section 9, fails. The counts are tried first: nothing else may be looked at before the show.
 pub fn test_run(run: Run) -> Test
     ensures { λ r. ⌜ r ≡ testOf run ⌝ }
 {
