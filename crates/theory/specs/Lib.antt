@@ -3,3 +3,5 @@ pub mod Counts
 pub mod Rounds
 pub mod Lighter
 pub mod Shows
+pub mod Floor
+pub mod Spare
