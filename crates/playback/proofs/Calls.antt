@@ -27,17 +27,17 @@ use Rattle.playback.specs.Answers.{busyCheck, finishCheck, landedFor, fi
 
 -- ---- by the check
 
-abbrev granted : Run → Moved
+abbrev pub granted : Run → Moved
 granted q = record { check = Within; run = q }
 
-abbrev refused : Run → Refusal → Moved
+abbrev pub refused : Run → Refusal → Moved
 refused r w = record { check = Refused w; run = r }
 
 module _ (k : Check) (r next : Run) where
-  moved-refused : (w : Refusal) → k ≡ Refused w → refused r w ≡ moved k r next
+  pub moved-refused : (w : Refusal) → k ≡ Refused w → refused r w ≡ moved k r next
   moved-refused w e = ap (λ (x : Check). moved x r next) (sym e)
 
-  moved-granted : (q : Run) → k ≡ Within → q ≡ next → granted q ≡ moved k r next
+  pub moved-granted : (q : Run) → k ≡ Within → q ≡ next → granted q ≡ moved k r next
   moved-granted q e f = ap granted f ∙ ap (λ (x : Check). moved x r next) (sym e)
 
 long : (d : ℕ) → 1000000000 < d → spanCheck d ≡ Refused refusal.TooLong

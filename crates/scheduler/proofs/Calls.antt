@@ -11,11 +11,12 @@ use Rattle.run.specs.declared.Underway.the-variants as underway
 use Rattle.run.specs.declared.Run.{Run}
 use Rattle.run.specs.Run.{playing}
 use Rattle.run.specs.Sound.{SoundRun}
+use Rattle.run.specs.Decisions.{freeCheck}
 use Rattle.run.specs.Steps.{skipped, idled}
 use Rattle.run.proofs.Tests.{damaged-first, sound-then}
 use Rattle.scheduler.specs.declared.Choice.the-variants as choice
 use Rattle.scheduler.specs.declared.Chosen.{Chosen}
-use Rattle.scheduler.specs.Answers.{chosen, arrived, nextOf, freeCheck, chooseCheck, chosenBy, chooseOf}
+use Rattle.scheduler.specs.Answers.{chosen, arrived, nextOf, chooseCheck, chosenBy, chooseOf}
 
 module _ (r : Run) where
   by-check : (k : Check) → chooseCheck r ≡ k → chosenBy k r ≡ chooseOf r

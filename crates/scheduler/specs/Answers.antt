@@ -6,11 +6,9 @@ use Rattle.drive.specs.declared.refusal.Refusal.the-variants as refusal
 use Rattle.drive.specs.declared.refusal.Check.{Check}
 use Rattle.drive.specs.declared.refusal.Check.the-variants.{Within, Refused}
 use Rattle.drive.specs.Checks.{first}
-use Rattle.run.specs.declared.Underway.{Underway}
-use Rattle.run.specs.declared.Underway.the-variants as underway
 use Rattle.run.specs.declared.Run.{Run}
 use Rattle.run.specs.Run.{playing, seatAt, onward}
-use Rattle.run.specs.Decisions.{put?, soundCheck}
+use Rattle.run.specs.Decisions.{put?, freeCheck, soundCheck}
 use Rattle.run.specs.Steps.{skipped, idled, begun}
 use Rattle.scheduler.specs.declared.Choice.{Choice}
 use Rattle.scheduler.specs.declared.Choice.the-variants as choice
@@ -30,11 +28,6 @@ unfoldable pub nextOf : Run → Chosen
 nextOf r =
     ite (ℕ-discrete (playing r) 0) (chosen choice.Idle r)
     (ite (decLt (skipped r) (playing r)) (arrived r (skipped r)) (chosen choice.Idle (idled r)))
-
--- 13: a read is under way
-abbrev pub freeCheck : Underway → Check
-freeCheck underway.Nothing = Within
-freeCheck (underway.Read i) = Refused refusal.ReadUnderway
 
 -- 19, 13
 unfoldable pub chooseCheck : Run → Check

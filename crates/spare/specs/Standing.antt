@@ -1,0 +1,58 @@
+-- What the code between the calls goes by. No promise rests on it.
+use Prim.Native.Nat.{ℕ, _^_, _≤_, _<_}
+use mathlib.Core.List.{List}
+use lib.ListN.{getD}
+use lib.IntN.{ℤ, pos}
+use lib.Signed.{mag}
+use Rattle.drive.specs.Bound.{worstMost}
+use Rattle.drive.specs.Lists.{listed, padded}
+use Rattle.theory.specs.Spare.{rank, loadBy, spareBy, slackBy}
+use Rattle.theory.specs.Shows.{loadOf}
+use Rattle.verdict.specs.Answers.{setOf, timesOf}
+use Rattle.run.specs.declared.Run.{Run}
+use Rattle.run.specs.Run.{playing}
+use Rattle.spare.specs.declared.standing.Standing.{Standing}
+use Rattle.spare.specs.Times.{aheadAt}
+
+-- what stands at a place of a row
+abbrev pub aheadIn : List ℤ → ℕ → ℤ
+aheadIn l i = getD l i (pos 0)
+
+abbrev pub placeIn : List ℕ → ℕ → ℕ
+placeIn l i = getD l i 0
+
+-- each session's workahead, and its place in increasing workahead; zeros above
+abbrev pub aheadsOf : Run → List ℤ
+aheadsOf r = padded 16 (pos 0) (listed (aheadAt r) (playing r))
+
+abbrev pub placesOf : (ℕ → ℤ) → ℕ → List ℕ
+placesOf w n = padded 16 0 (listed (rank w n) n)
+
+-- each of n sessions has a place
+abbrev pub PlacedBelow : List ℕ → ℕ → Type 0
+PlacedBelow l n = (i : ℕ) → i < n → placeIn l i < n
+
+abbrev pub standingOf : Run → Standing
+standingOf r =
+    record {
+      playing = playing r;
+      aheads = aheadsOf r;
+      times = timesOf (loadOf (r .show)) (setOf (r .counts));
+      places = placesOf (aheadIn (aheadsOf r)) (playing r);
+    }
+
+-- Times and workaheads so small that no difference of them passes 64 bits.
+pub record Fit (s : Standing) : Type 0 where
+  pub few : s .playing ≤ 16
+  pub times : (i : ℕ) → i < s .playing → setOf (s .times) i < worstMost
+  pub aheads : (i : ℕ) → i < s .playing → mag (aheadIn (s .aheads) i) < 2 ^ 62
+
+-- load, spare and slack of a standing
+abbrev pub loadIn : Standing → ℕ → ℕ
+loadIn s k = loadBy (placeIn (s .places)) (setOf (s .times)) (s .playing) k
+
+abbrev pub spareIn : Standing → ℕ → ℤ
+spareIn s k = spareBy (placeIn (s .places)) (aheadIn (s .aheads)) (setOf (s .times)) (s .playing) k
+
+abbrev pub slackIn : Standing → ℤ
+slackIn s = slackBy (placeIn (s .places)) (aheadIn (s .aheads)) (setOf (s .times)) (s .playing)
