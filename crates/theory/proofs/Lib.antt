@@ -1,4 +1,5 @@
 pub mod Sum
+pub mod Integers
 pub mod Search
 pub mod Rounds
 pub mod Overload
