@@ -1,5 +1,6 @@
 pub mod Sum
 pub mod Integers
+pub mod Floor
 pub mod Search
 pub mod Rounds
 pub mod Overload
