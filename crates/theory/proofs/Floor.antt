@@ -1,0 +1,82 @@
+-- Division rounded down is the one that it should be, and grows. Assumes nothing.
+use Prim.Native.Nat.{ℕ, zero, suc, _+_, _-_, _*_, _/_, _≤_, _<_}
+use mathlib.Core.Path.{_≡_, sym, _∙_, ap}
+use native.Mathlib.Omega.{arith}
+use native.Mathlib.Nat.{le-trans, add-mul, mul-le-mul-left, suc-mul, div-mul-le-self, lt-div-mul-add, le-div-iff-mul-le, lt-of-mul-lt-mul-right}
+use native.Mathlib.Decide.{decLe}
+use lib.Dec.{le→leb}
+use lib.IntN.{ℤ, pos, negsuc, subℕ, _+ℤ_, _*ℤ_}
+use lib.Signed.{_≤ℤ_, _<ℤ_, leZ-yes}
+use Rattle.theory.specs.Floor.{Floors, floorZ}
+use Rattle.theory.proofs.Integers.{≤ℤ-antisymm, sub-ge, sub-lt, from-pos, from-negsuc, difference, sub-le, sub-below, le-sub, below-sub, sub-more, sub-times}
+
+-- ---- rounded down, among differences
+
+one-more : (p q r : ℕ) → (subℕ p q +ℤ pos 1) *ℤ pos r ≡ subℕ ((p + 1) * r) (q * r)
+one-more p q r = ap (λ (z : ℤ). z *ℤ pos r) (sub-more p q 1) ∙ sub-times (p + 1) q r
+
+floors-sub :
+    (a b r p q : ℕ) → p * r + b ≤ a + q * r → a + q * r < (p + 1) * r + b → Floors (subℕ a b) r (subℕ p q)
+floors-sub a b r p q h k =
+    record {
+      below = rw (sub-times p q r) (sub-le (p * r) (q * r) a b h);
+      above = rw (one-more p q r) (sub-below a b ((p + 1) * r) (q * r) k);
+    }
+
+sub-floors : (a b r p q s t : ℕ) → Floors (subℕ a b) r (subℕ p q) → Floors (subℕ a b) r (subℕ s t) → p + t ≤ s + q
+sub-floors a b r p q s t f g =
+    let h = le-sub (p * r) (q * r) a b (rw (sub-times p q r) at (f .below)) in
+    let k = below-sub a b ((s + 1) * r) (t * r) (rw (one-more s t r) at (g .above)) in
+    let l : p + t < s + 1 + q = lt-of-mul-lt-mul-right r (omega (arith, add-mul p t r, add-mul (s + 1) q r)) in
+    omega arith
+
+-- ---- floorZ
+
+pub floor-floors : (z : ℤ) (r : ℕ) → 0 < r → Floors z r (floorZ z r)
+unfolding floorZ
+floor-floors (pos a) r h =
+    let l = div-mul-le-self a r in
+    let m : a < a / r * r + r = lt-div-mul-add h in
+    rw (from-pos a, from-pos (a / r)) (floors-sub a 0 r (a / r) 0 (omega arith) (omega (arith, add-mul (a / r) 1 r)))
+floor-floors (negsuc a) r h =
+    let l = div-mul-le-self a r in
+    let m : a < a / r * r + r = lt-div-mul-add h in
+    let s = suc-mul (a / r) r in
+    rw (from-negsuc a, from-negsuc (a / r)) (floors-sub 0 (suc a) r 0 (suc (a / r)) (omega arith) (omega arith))
+
+-- No other is.
+floors-most : (z : ℤ) (r : ℕ) (p q : ℤ) → Floors z r p → Floors z r q → p ≤ℤ q
+floors-most z r p q f g =
+    let x = difference z in
+    let y = difference p in
+    let w = difference q in
+    rw (y .is, w .is)
+    (sub-le (y .plus) (y .minus) (w .plus) (w .minus)
+    (sub-floors (x .plus) (x .minus) r (y .plus) (y .minus) (w .plus) (w .minus) (rw (x .is, y .is) at f) (rw (x .is, w .is) at g)))
+
+pub floors-once : (z : ℤ) (r : ℕ) (p q : ℤ) → 0 < r → Floors z r p → Floors z r q → p ≡ q
+floors-once z r p q h f g = ≤ℤ-antisymm p q (floors-most z r p q f g) (floors-most z r q p g f)
+
+floor-ge : (a b r : ℕ) → b ≤ a → floorZ (subℕ a b) r ≡ pos ((a - b) / r)
+unfolding floorZ
+floor-ge a b r h = rw (sub-ge a b h)
+
+floor-lt : (a b r : ℕ) → a < b → floorZ (subℕ a b) r ≡ negsuc ((b - suc a) / r)
+unfolding floorZ
+floor-lt a b r h = rw (sub-lt a b h)
+
+-- From k times the divisor up it is k at least: whole microseconds lose nothing.
+pub floor-from : (k a b r : ℕ) → 0 < r → k * r + b ≤ a → pos k ≤ℤ floorZ (subℕ a b) r
+floor-from k a b r h g =
+    rw (floor-ge a b r (omega arith)) (leZ-yes (le→leb k ((a - b) / r) (le-div-iff-mul-le h .1 (omega arith))))
+
+-- Of a number that is not below zero: no less than of a smaller one by a larger divisor.
+pub floor-grows :
+    (a b c d r q : ℕ) → 0 < q → q ≤ r → d ≤ c → a + d ≤ c + b → floorZ (subℕ a b) r ≤ℤ floorZ (subℕ c d) q
+floor-grows a b c d r q h k g l = elim (decLe b a) [
+  | yes f ↦
+      let m = div-mul-le-self (a - b) r in
+      let n : (a - b) / r * q ≤ (a - b) / r * r = mul-le-mul-left ((a - b) / r) k in
+      rw (floor-ge a b r f) (floor-from ((a - b) / r) c d q h (omega arith))
+  | no f ↦ rw (floor-lt a b r (omega arith), floor-ge c d q g) (leZ-yes tt)
+]
