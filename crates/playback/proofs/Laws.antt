@@ -29,14 +29,14 @@ use Rattle.playback.proofs.Calls.{passed-reads}
 
 module _ (k : Check) (r next : Run) where
   -- what holds of the run given, and of the next where the call is granted
-  moved-either : (P : Run → Type 0) → P r → (k ≡ Within → P next) → P (moved k r next .run)
+  pub moved-either : (P : Run → Type 0) → P r → (k ≡ Within → P next) → P (moved k r next .run)
   moved-either P h f = from k refl
     where
       from : (j : Check) → k ≡ j → P (moved j r next .run)
       from Within e = f e
       from (Refused w) e = h
 
-  moved-back : (w : Refusal) → moved k r next .check ≡ Refused w → moved k r next .run ≡ r
+  pub moved-back : (w : Refusal) → moved k r next .check ≡ Refused w → moved k r next .run ≡ r
   moved-back w e = from k e
     where
       from : (j : Check) → moved j r next .check ≡ Refused w → moved j r next .run ≡ r

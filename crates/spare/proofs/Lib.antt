@@ -3,3 +3,5 @@ pub mod Aheads
 pub mod Orders
 pub mod Standings
 pub mod Calls
+pub mod Laws
+pub mod Lighter

@@ -1,3 +1,4 @@
 pub mod Times
 pub mod Standing
 pub mod Answers
+pub mod Laws

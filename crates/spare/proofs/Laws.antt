@@ -1,0 +1,157 @@
+-- Every call, granted or refused: workahead and slack hand the run back, and a start makes a sound run. Assumes nothing.
+use Prim.Native.Nat.{ℕ, _+_, _*_, _≤_, _<_}
+use mathlib.Core.Path.{_≡_, refl, sym, ap, subst, _∙_}
+use mathlib.Core.Bool.{false}
+use mathlib.Core.Logic.{if-neg}
+use native.Mathlib.Decide.{decLt}
+use native.Mathlib.Nat.{le-refl, mul-comm}
+use native.Mathlib.Omega.{arith}
+use lib.IntN.{ℤ, pos}
+use lib.ListN.{length, getD}
+use lib.Signed.{_≤ℤ_, clashℤ}
+use Rattle.drive.specs.declared.refusal.Refusal.{Refusal}
+use Rattle.drive.specs.declared.refusal.Refusal.the-variants as refusal
+use Rattle.drive.specs.declared.refusal.Check.{Check}
+use Rattle.drive.specs.declared.refusal.Check.the-variants.{Within, Refused}
+use Rattle.drive.specs.Checks.{first}
+use Rattle.drive.proofs.Checks.{within-refused, unless-within, first-left, first-right}
+use Rattle.theory.specs.Sum.{sumTo}
+use Rattle.theory.specs.Spare.{slackBy, less?}
+use Rattle.theory.specs.Shows.{loadOf}
+use Rattle.theory.proofs.Floor.{floor-from}
+use Rattle.theory.proofs.Spare.{slack-enough, claim-nine, rank-below}
+use Rattle.verdict.specs.Answers.{setOf}
+use Rattle.run.specs.declared.Underway.{Underway}
+use Rattle.run.specs.declared.Underway.the-variants as underway
+use Rattle.run.specs.declared.Run.{Run}
+use Rattle.run.specs.Run.{playing, stateAt, clipAt}
+use Rattle.run.specs.Sound.{SoundRun}
+use Rattle.run.specs.Decisions.{false?, sound?, freeCheck, soundCheck}
+use Rattle.run.specs.Laws.{Ahead}
+use Rattle.run.proofs.States.{true-false}
+use Rattle.run.proofs.Steps.{nothing-read}
+use Rattle.run.proofs.Orders.{names-below}
+use Rattle.playback.specs.declared.Moved.{Moved}
+use Rattle.playback.specs.Answers.{moved}
+use Rattle.playback.proofs.Laws.{moved-either, moved-back}
+use Rattle.spare.specs.Times.{aheadAt, timeAt, slackTime, placeAt, startOrder, running}
+use Rattle.spare.specs.Answers.{spared, workaheadOf, someCheck, slackOf, onceCheck, slackCheck, startCheck, startOf}
+use Rattle.spare.specs.Laws.{Started}
+use Rattle.spare.proofs.Aheads.{ahead-is, counting}
+use Rattle.spare.proofs.Orders.{named-length, named-above}
+use Rattle.spare.proofs.Calls.{start-names, start-first, start-begins, begin-granted}
+
+-- ---- workahead and slack
+
+spared-run : (k : Check) (z : ℤ) (r : Run) → spared k z r .run ≡ r
+spared-run Within z r = refl
+spared-run (Refused w) z r = refl
+
+pub workahead-run : (r : Run) (i : ℕ) → workaheadOf r i .run ≡ r
+unfolding workaheadOf
+workahead-run r i = spared-run (first (soundCheck r) _) (aheadAt r i) r
+
+pub slack-run : (r : Run) → slackOf r .run ≡ r
+unfolding slackOf
+slack-run r = spared-run (first (soundCheck r) (someCheck r)) (slackTime r) r
+
+-- No order gives more.
+pub slack-most : (r : Run) (place : ℕ → ℕ) → 0 < playing r → slackBy place (aheadAt r) (timeAt r) (playing r) ≤ℤ slackTime r
+slack-most r place l = claim-nine place (aheadAt r) (timeAt r) (playing r) l
+
+-- ---- start
+
+-- What a granted start rests on.
+record Starts (r : Run) : Type 0 where
+  sound : SoundRun r
+  fresh : r .started ≡ false
+  free : r .underway ≡ underway.Nothing
+  some : 0 < playing r
+
+nothing : (u : Underway) → freeCheck u ≡ Within → u ≡ underway.Nothing
+nothing underway.Nothing e = refl
+nothing (underway.Read i) e = within-refused (sym e)
+
+module _ (r : Run) where
+  starts : startCheck r ≡ Within → Starts r
+  unfolding startCheck
+  starts e =
+      let last = first (someCheck r) (slackCheck r) in
+      let late = first (freeCheck (r .underway)) last in
+      let a = first-right (soundCheck r) (first (onceCheck r) late) e in
+      let b = first-right (onceCheck r) late a in
+      let c = first-right (freeCheck (r .underway)) last b in
+      record {
+        sound = unless-within (sound? r) refusal.Damaged (first-left (soundCheck r) (first (onceCheck r) late) e);
+        fresh = unless-within (false? (r .started)) refusal.AlreadyStarted (first-left (onceCheck r) late a);
+        free = nothing (r .underway) (first-left (freeCheck (r .underway)) last b);
+        some = unless-within (decLt 0 (playing r)) refusal.NoSession (first-left (someCheck r) (slackCheck r) c);
+      }
+
+  running-sound : length (r .order) ≡ 16 → Starts r → SoundRun (running r)
+  unfolding running
+  running-sound n s =
+      let few = s .sound .within .counts .sessions in
+      let f = start-first r (omega arith) (s .some) in
+      record {
+        within = s .sound .within;
+        counts = s .sound .counts;
+        states = λ i l.
+            (let b = s .sound .states i l in
+            record { put = b .put; taken = b .taken; held = b .held; clock = b .clock; early = λ e. true-false e });
+        order = start-names r (omega arith);
+        cycle =
+            record {
+              empty = λ e. absurd (let z = s .some in let f : ⊥ = omega arith in f);
+              turning = λ l. record { place = l; left = record { low = s .sound .counts .counted _ f; high = le-refl _ } };
+              underway = λ i e. nothing-read (sym (s .free) ∙ e);
+            };
+      }
+
+  running-started : Started r (running r)
+  unfolding running
+  running-started =
+      record {
+        show = refl;
+        counts = refl;
+        states = refl;
+        order = named-above (placeAt r) (r .order) (playing r) (playing r) (rank-below (aheadAt r) (playing r));
+        sized = named-length (placeAt r) (r .order) (playing r);
+        started = refl;
+      }
+
+  pub start-sound : length (r .order) ≡ 16 → SoundRun r → SoundRun (startOf r .run)
+  unfolding startOf
+  start-sound n s = moved-either (startCheck r) r (running r) SoundRun s (λ e. running-sound n (starts e))
+
+  pub start-refused : (w : Refusal) → startOf r .check ≡ Refused w → startOf r .run ≡ r
+  unfolding startOf
+  start-refused = moved-back (startCheck r) r (running r)
+
+  pub start-granted : startOf r .check ≡ Within → Started r (startOf r .run)
+  unfolding startOf
+  start-granted e = from (startCheck r) e
+    where
+      from : (k : Check) → moved k r (running r) .check ≡ Within → Started r (moved k r (running r) .run)
+      from Within f = running-started
+      from (Refused w) f = within-refused (sym f)
+
+  -- More than a round ahead everywhere: the start is granted.
+  module _ (s : SoundRun r) (l : 0 < playing r) (ahead : (i : ℕ) → i < playing r → Ahead r i) where
+    far : (i : ℕ) → i < playing r → pos (sumTo (timeAt r) (playing r)) ≤ℤ aheadAt r i
+    far i m =
+        let P = stateAt r i .put in
+        let Y = clipAt r i .cushion in
+        let C = stateAt r i .clock in
+        let L = sumTo (timeAt r) (playing r) in
+        let h : clipAt r i .rate * L + (Y * 1000000 + C) < P * 1000000 = ahead i m in
+        let g : L * clipAt r i .rate + (Y * 1000000 + C) ≤ P * 1000000 = omega (arith, mul-comm (clipAt r i .rate) L) in
+        rw (ahead-is P Y C) (floor-from L (P * 1000000) (Y * 1000000 + C) (clipAt r i .rate) (counting r s i m .rate) g)
+
+    pub far-slack : pos 0 ≤ℤ slackTime r
+    far-slack = slack-enough _ (aheadAt r) (timeAt r) (playing r) l far
+
+    pub far-starts : r .started ≡ false → r .underway ≡ underway.Nothing → startOf r .check ≡ Within
+    far-starts e u =
+        ap (λ (m : Moved). m .check)
+        (sym (start-begins r s e u _ l (begin-granted r (running r) (λ n. clashℤ n far-slack) refl)))
