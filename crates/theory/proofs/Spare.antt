@@ -120,7 +120,7 @@ slack-same p q w v u t n z f g h =
     ≤ℤ-antisymm _ _ (slack-half p q w v u t n z f g h)
     (slack-half q p v w t u n z (λ i l. sym (f i l)) (λ i l. sym (g i l)) (λ i l. sym (h i l)))
 
--- Where every workahead covers all the times there is slack.
+-- Where every workahead covers all the times, slack is not below zero.
 pub slack-enough :
     (place : ℕ → ℕ) (w : ℕ → ℤ) (u : ℕ → ℕ) (n : ℕ) → 0 < n →
     ((i : ℕ) → i < n → pos (sumTo u n) ≤ℤ w i) → pos 0 ≤ℤ slackBy place w u n
@@ -221,7 +221,8 @@ last-of p told place n k l h (suc m) g = from (told m) (last-of p told place n k
           }
     ]
 
--- Of the sessions not after k in increasing workahead take the one that is last in the other order: they all come before it there.
+-- Claim 9. Of the sessions not after k in increasing workahead take the one that is last in the other order: none is after it there,
+-- and it has no more workahead than k.
 pub claim-nine :
     (place : ℕ → ℕ) (w : ℕ → ℤ) (u : ℕ → ℕ) (n : ℕ) → 0 < n → slackBy place w u n ≤ℤ slack w u n
 claim-nine place w u n z = slack-from (rank w n) w u n (slackBy place w u n) z spare
