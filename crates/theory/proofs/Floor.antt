@@ -1,14 +1,15 @@
 -- Division rounded down is the one that it should be, and grows. Assumes nothing.
-use Prim.Native.Nat.{ℕ, zero, suc, _+_, _-_, _*_, _/_, _≤_, _<_}
-use mathlib.Core.Path.{_≡_, sym, _∙_, ap}
+use Prim.Native.Nat.{ℕ, suc, _+_, _-_, _*_, _/_, _≤_, _<_}
+use mathlib.Core.Path.{_≡_, _∙_, ap}
 use native.Mathlib.Omega.{arith}
-use native.Mathlib.Nat.{le-trans, add-mul, mul-le-mul-left, suc-mul, div-mul-le-self, lt-div-mul-add, le-div-iff-mul-le, lt-of-mul-lt-mul-right}
+use native.Mathlib.Nat.{add-mul, mul-le-mul-left, suc-mul, div-mul-le-self, lt-div-mul-add, le-div-iff-mul-le, lt-of-mul-lt-mul-right}
 use native.Mathlib.Decide.{decLe}
 use lib.Dec.{le→leb}
 use lib.IntN.{ℤ, pos, negsuc, subℕ, _+ℤ_, _*ℤ_}
-use lib.Signed.{_≤ℤ_, _<ℤ_, leZ-yes}
+use lib.Signed.{_≤ℤ_, leZ-yes}
 use Rattle.theory.specs.Floor.{Floors, floorZ}
-use Rattle.theory.proofs.Integers.{≤ℤ-antisymm, sub-ge, sub-lt, from-pos, from-negsuc, difference, sub-le, sub-below, le-sub, below-sub, sub-more, sub-times}
+use Rattle.theory.proofs.Integers.{≤ℤ-antisymm, sub-ge, sub-lt, from-pos, from-negsuc, difference}
+use Rattle.theory.proofs.Integers.{sub-le, sub-below, le-sub, below-sub, sub-more, sub-times}
 
 -- ---- rounded down, among differences
 
@@ -32,19 +33,26 @@ sub-floors a b r p q s t f g =
 
 -- ---- floorZ
 
-pub floor-floors : (z : ℤ) (r : ℕ) → 0 < r → Floors z r (floorZ z r)
+floor-at : (a r : ℕ) → floorZ (pos a) r ≡ subℕ (a / r) 0
 unfolding floorZ
+floor-at a r = from-pos (a / r)
+
+floor-under : (a r : ℕ) → floorZ (negsuc a) r ≡ subℕ 0 (suc (a / r))
+unfolding floorZ
+floor-under a r = from-negsuc (a / r)
+
+-- It is z / r rounded down.
+pub floor-floors : (z : ℤ) (r : ℕ) → 0 < r → Floors z r (floorZ z r)
 floor-floors (pos a) r h =
     let l = div-mul-le-self a r in
     let m : a < a / r * r + r = lt-div-mul-add h in
-    rw (from-pos a, from-pos (a / r)) (floors-sub a 0 r (a / r) 0 (omega arith) (omega (arith, add-mul (a / r) 1 r)))
+    rw (floor-at a r, from-pos a) (floors-sub a 0 r (a / r) 0 (omega arith) (omega (arith, add-mul (a / r) 1 r)))
 floor-floors (negsuc a) r h =
     let l = div-mul-le-self a r in
     let m : a < a / r * r + r = lt-div-mul-add h in
     let s = suc-mul (a / r) r in
-    rw (from-negsuc a, from-negsuc (a / r)) (floors-sub 0 (suc a) r 0 (suc (a / r)) (omega arith) (omega arith))
+    rw (floor-under a r, from-negsuc a) (floors-sub 0 (suc a) r 0 (suc (a / r)) (omega arith) (omega arith))
 
--- No other is.
 floors-most : (z : ℤ) (r : ℕ) (p q : ℤ) → Floors z r p → Floors z r q → p ≤ℤ q
 floors-most z r p q f g =
     let x = difference z in
@@ -54,16 +62,13 @@ floors-most z r p q f g =
     (sub-le (y .plus) (y .minus) (w .plus) (w .minus)
     (sub-floors (x .plus) (x .minus) r (y .plus) (y .minus) (w .plus) (w .minus) (rw (x .is, y .is) at f) (rw (x .is, w .is) at g)))
 
+-- There is one.
 pub floors-once : (z : ℤ) (r : ℕ) (p q : ℤ) → 0 < r → Floors z r p → Floors z r q → p ≡ q
 floors-once z r p q h f g = ≤ℤ-antisymm p q (floors-most z r p q f g) (floors-most z r q p g f)
 
 floor-ge : (a b r : ℕ) → b ≤ a → floorZ (subℕ a b) r ≡ pos ((a - b) / r)
 unfolding floorZ
 floor-ge a b r h = rw (sub-ge a b h)
-
-floor-lt : (a b r : ℕ) → a < b → floorZ (subℕ a b) r ≡ negsuc ((b - suc a) / r)
-unfolding floorZ
-floor-lt a b r h = rw (sub-lt a b h)
 
 -- From k times the divisor up it is k at least: whole microseconds lose nothing.
 pub floor-from : (k a b r : ℕ) → 0 < r → k * r + b ≤ a → pos k ≤ℤ floorZ (subℕ a b) r
@@ -78,5 +83,7 @@ floor-grows a b c d r q h k g l = elim (decLe b a) [
       let m = div-mul-le-self (a - b) r in
       let n : (a - b) / r * q ≤ (a - b) / r * r = mul-le-mul-left ((a - b) / r) k in
       rw (floor-ge a b r f) (floor-from ((a - b) / r) c d q h (omega arith))
-  | no f ↦ rw (floor-lt a b r (omega arith), floor-ge c d q g) (leZ-yes tt)
+  | no f ↦
+      rw (sub-lt a b (omega arith), floor-under (b - suc a) r, floor-ge c d q g, from-pos ((c - d) / q))
+      (sub-le 0 (suc ((b - suc a) / r)) ((c - d) / q) 0 (omega arith))
 ]

@@ -1,6 +1,6 @@
 -- The laws of integers that spare time cites, by the difference of two naturals: `subℕ a b` is a - b. Assumes nothing.
 use Prim.Native.Nat.{ℕ, zero, suc, _+_, _-_, _*_, _≤_, _<_}
-use mathlib.Core.Path.{_≡_, refl, sym, _∙_, ap, subst}
+use mathlib.Core.Path.{_≡_, refl, sym, _∙_, ap}
 use mathlib.Core.Bool.{Bool, true, false, not}
 use native.Mathlib.Omega.{arith}
 use native.Mathlib.Nat.{le-antisymm, le-of-eq, le-of-lt, add-zero, sub-zero, mul-comm, mul-sub, mul-le-mul-right}

@@ -1,15 +1,15 @@
 -- Spare time: slack is the least, ranks number increasing workahead, and no order gives more slack. Assumes nothing.
 use Prim.Native.Nat.{ℕ, zero, suc, _+_, _-_, _≤_, _<_}
-use mathlib.Core.Path.{_≡_, refl, sym, _∙_, ap, subst}
+use mathlib.Core.Path.{_≡_, refl, sym, _∙_, subst}
 use mathlib.Core.Logic.{inl, inr, ite, if-pos, if-neg}
 use native.Mathlib.Omega.{arith}
 use native.Mathlib.Nat.{le-refl, le-of-eq, le-trans}
 use native.Mathlib.Decide.{decLe, decLt}
-use lib.IntN.{ℤ, pos, _-ℤ_, +ℤ-invr}
-use lib.Signed.{_≤ℤ_, _<ℤ_, ≤ℤ-refl, <ℤ-≤ℤ-trans, <ℤ-irrefl, clashℤ}
-use Rattle.theory.specs.Sum.{sumTo, sumWhere}
+use lib.IntN.{ℤ, pos, +ℤ-invr}
+use lib.Signed.{_≤ℤ_, _<ℤ_, ≤ℤ-refl, <ℤ-≤ℤ-trans, <ℤ-irrefl}
+use Rattle.theory.specs.Sum.{sumTo}
 use Rattle.theory.specs.Spare.{less?, lesser, leastTo, loadBy, spareBy, slackBy, Before, before?, rank, slack}
-use Rattle.theory.proofs.Sum.{sum-grows, sum-capped, sum-part, where-most, where-grows, where-new, where-same}
+use Rattle.theory.proofs.Sum.{sum-capped, sum-part, where-most, where-grows, where-new, where-same}
 use Rattle.theory.proofs.Integers.{not-less, less-at-most, ≤ℤ-trans, ≤ℤ-antisymm, less-grows}
 
 -- ---- the least of some
@@ -87,29 +87,23 @@ slack-from place w u n z h f =
     let r = attained (spareBy place w u n) (n - 1) in
     rw (r .is) (f (r .at) (let l = r .within in omega arith))
 
--- Where every workahead covers all the times there is slack.
-pub slack-enough :
-    (place : ℕ → ℕ) (w : ℕ → ℤ) (u : ℕ → ℕ) (n : ℕ) → 0 < n →
-    ((i : ℕ) → i < n → pos (sumTo u n) ≤ℤ w i) → pos 0 ≤ℤ slackBy place w u n
-slack-enough place w u n h f =
-    slack-from place w u n (pos 0) h
-    (λ k l. subst (λ (z : ℤ). z ≤ℤ spareBy place w u n k) (+ℤ-invr (pos (sumTo u n)))
-    (less-grows (pos (sumTo u n)) (w k) (sumTo u n) (loadBy place u n k) (f k l) (where-most (λ j. decLe (place j) (place k)) u n)))
+-- Where e finds some of the sessions again, with times no shorter, those not after k among those not after l: no smaller a load.
+load-part :
+    (e p q u t : ℕ → ℕ) (m n k l : ℕ) → ((i : ℕ) → i < m → e i < n) → ((i j : ℕ) → i < j → j < m → e i < e j) →
+    ((i : ℕ) → i < m → q i ≤ q k → p (e i) ≤ p l) → ((i : ℕ) → i < m → t i ≤ u (e i)) → loadBy q t m k ≤ loadBy p u n l
+load-part e p q u t m n k l inside rising order times =
+    le-trans (where-grows (λ j. decLe (q j) (q k)) (λ j. decLe (p (e j)) (p l)) t (λ j. u (e j)) m order times)
+    (sum-part (λ j. ite (decLe (p j) (p l)) (u j) 0) e m n inside rising)
 
--- Where e finds in an order some of its sessions, in that order, with no more workahead and no shorter times, the slack is no more.
+-- And where they have no more workahead there: no more slack.
 slack-part :
     (e p q : ℕ → ℕ) (w v : ℕ → ℤ) (u t : ℕ → ℕ) (m n : ℕ) → 0 < m → ((i : ℕ) → i < m → e i < n) →
     ((i j : ℕ) → i < j → j < m → e i < e j) → ((i j : ℕ) → i < m → j < m → q i ≤ q j → p (e i) ≤ p (e j)) →
     ((i : ℕ) → i < m → w (e i) ≤ℤ v i) → ((i : ℕ) → i < m → t i ≤ u (e i)) → slackBy p w u n ≤ℤ slackBy q v t m
-slack-part e p q w v u t m n z inside rising order ahead times = slack-from q v t m (slackBy p w u n) z spare
-  where
-    load : (k : ℕ) → k < m → loadBy q t m k ≤ loadBy p u n (e k)
-    load k l =
-        le-trans (where-grows (λ j. decLe (q j) (q k)) (λ j. decLe (p (e j)) (p (e k))) t (λ j. u (e j)) m (λ i b. order i k b l) times)
-        (sum-part (λ j. ite (decLe (p j) (p (e k))) (u j) 0) e m n inside rising)
-
-    spare : (k : ℕ) → k < m → slackBy p w u n ≤ℤ spareBy q v t m k
-    spare k l = ≤ℤ-trans (slack-least p w u n (e k) (inside k l)) (less-grows (w (e k)) (v k) _ _ (ahead k l) (load k l))
+slack-part e p q w v u t m n z inside rising order ahead times =
+    slack-from q v t m (slackBy p w u n) z
+    (λ k l. ≤ℤ-trans (slack-least p w u n (e k) (inside k l))
+    (less-grows (w (e k)) (v k) _ _ (ahead k l) (load-part e p q u t m n k (e k) inside rising (λ i b. order i k b l) times)))
 
 slack-half :
     (p q : ℕ → ℕ) (w v : ℕ → ℤ) (u t : ℕ → ℕ) (n : ℕ) → 0 < n → ((i : ℕ) → i < n → p i ≡ q i) →
@@ -125,6 +119,15 @@ pub slack-same :
 slack-same p q w v u t n z f g h =
     ≤ℤ-antisymm _ _ (slack-half p q w v u t n z f g h)
     (slack-half q p v w t u n z (λ i l. sym (f i l)) (λ i l. sym (g i l)) (λ i l. sym (h i l)))
+
+-- Where every workahead covers all the times, slack is not below zero.
+pub slack-enough :
+    (place : ℕ → ℕ) (w : ℕ → ℤ) (u : ℕ → ℕ) (n : ℕ) → 0 < n →
+    ((i : ℕ) → i < n → pos (sumTo u n) ≤ℤ w i) → pos 0 ≤ℤ slackBy place w u n
+slack-enough place w u n h f =
+    slack-from place w u n (pos 0) h
+    (λ k l. subst (λ (z : ℤ). z ≤ℤ spareBy place w u n k) (+ℤ-invr (pos (sumTo u n)))
+    (less-grows (pos (sumTo u n)) (w k) (sumTo u n) (loadBy place u n k) (f k l) (where-most (λ j. decLe (place j) (place k)) u n)))
 
 -- ---- increasing workahead
 
@@ -218,18 +221,19 @@ last-of p told place n k l h (suc m) g = from (told m) (last-of p told place n k
           }
     ]
 
--- Of the sessions not after k in increasing workahead take the one that is last in the other order: they all come before it there.
+-- Claim 9. Of the sessions not after k in increasing workahead take the one that is last in the other order: none is after it there,
+-- and it has no more workahead than k.
 pub claim-nine :
     (place : ℕ → ℕ) (w : ℕ → ℤ) (u : ℕ → ℕ) (n : ℕ) → 0 < n → slackBy place w u n ≤ℤ slack w u n
 claim-nine place w u n z = slack-from (rank w n) w u n (slackBy place w u n) z spare
   where
     spare : (k : ℕ) → k < n → slackBy place w u n ≤ℤ spareBy (rank w n) w u n k
     spare k l =
-        let d : (i : ℕ) → Dec (rank w n i ≤ rank w n k) = λ i. decLe (rank w n i) (rank w n k) in
-        let r = last-of (λ i. rank w n i ≤ rank w n k) d place n k l (le-refl _) n (le-refl n) in
+        let r =
+        last-of (λ i. rank w n i ≤ rank w n k) (λ i. decLe (rank w n i) (rank w n k)) place n k l (le-refl (rank w n k)) n (le-refl n) in
         ≤ℤ-trans (slack-least place w u n (r .at) (r .within))
         (less-grows (w (r .at)) (w k) _ _ (rank-first w n (r .at) k (r .within) l (r .holds))
-        (where-grows d (λ i. decLe (place i) (place (r .at))) u u n (r .last) (λ i b. le-refl (u i))))
+        (load-part (λ i. i) place (rank w n) u u n n k (r .at) (λ i b. b) (λ i j b c. b) (r .last) (λ i b. le-refl (u i))))
 
 -- A lighter load has no less slack: leave out sessions, shorten times, put more ahead.
 pub slack-lighter :
