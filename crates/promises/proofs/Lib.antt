@@ -4,3 +4,5 @@ pub mod Verdict
 pub mod Lighter
 pub mod Reports
 pub mod Runs
+pub mod Worked
+pub mod Spare

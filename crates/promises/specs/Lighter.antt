@@ -1,13 +1,22 @@
--- Demand 3, the verdict: make an accepted show lighter and nothing gets worse. proofs/Lighter.antt proves it.
+-- Demand 3: make an accepted show lighter and nothing gets worse. proofs/Lighter.antt and proofs/Spare.antt prove it.
 use Prim.Native.Nat.{ℕ, _≤_, _<_}
 use mathlib.Core.Path.{_≡_}
+use lib.IntN.{ℤ}
+use lib.Signed.{_≤ℤ_, _<ℤ_}
 use Rattle.drive.specs.declared.Show.{Show}
 use Rattle.drive.specs.Limits.{ShowWithin}
-use Rattle.theory.specs.Shows.{Lightened, without, stoodAt}
+use Rattle.theory.specs.Counts.{Smallest}
+use Rattle.theory.specs.Shows.{loadOf, Lightened, without, stoodAt}
 use Rattle.verdict.specs.declared.Decision.{Decision}
 use Rattle.verdict.specs.declared.Verdict.the-variants as verdict
 use Rattle.verdict.specs.Answers.{DecisionIs, setOf}
+use Rattle.run.specs.declared.Run.{Run}
+use Rattle.run.specs.Run.{playing}
+use Rattle.spare.specs.declared.Spare.the-variants.{Time}
+use Rattle.spare.specs.Answers.{workaheadOf, slackOf}
+use Rattle.spare.specs.Laws.{Cushioned, Lightly}
 use Rattle.promises.specs.Files.{Shaped}
+use Rattle.promises.specs.Runs.{RunOf}
 
 -- Accepted again; no count, time or round is larger. Session i stood at place e i before.
 pub record NoWorse (playing : ℕ) (e : ℕ → ℕ) (light heavy : Decision) : Type 0 where
@@ -25,3 +34,29 @@ pub record Lighter : Type 0 where
   pub fewer :
       (b : Show) (k : ℕ) → Shaped b → k < b .playing → (d f : Decision) → DecisionIs (without k b) d → DecisionIs b f →
       f .verdict ≡ verdict.Accepted → NoWorse (without k b .playing) (stoodAt k) d f
+
+-- ---- spare time
+
+-- Two runs as demand 3 compares them, where the lighter has less to spare.
+pub record Worse : Type 0 where
+  pub light : Run
+  pub heavy : Run
+  pub lightly : Lightly light heavy (λ i. i)
+  pub less : ℤ
+  pub more : ℤ
+  pub light-slack : slackOf light .spare ≡ Time less
+  pub heavy-slack : slackOf heavy .spare ≡ Time more
+  pub worse : less <ℤ more
+
+pub record Spare : Type 0 where
+  -- Where a session of the lighter run is not behind its cushion, its workahead is no smaller; where none is, neither is the slack.
+  pub workahead :
+      (a b : Run) (e : ℕ → ℕ) → Lightly a b e → (i : ℕ) (y z : ℤ) → Cushioned a i → workaheadOf a i .spare ≡ Time z →
+      workaheadOf b (e i) .spare ≡ Time y → y ≤ℤ z
+  pub slack :
+      (a b : Run) (e : ℕ → ℕ) → Lightly a b e → (y z : ℤ) → ((i : ℕ) → i < playing a → Cushioned a i) → slackOf a .spare ≡ Time z →
+      slackOf b .spare ≡ Time y → y ≤ℤ z
+  -- The proviso is needed.
+  pub proviso : Worse
+  -- Two runs of shows hold the smallest counts, whatever calls came between.
+  pub smallest : (s : Show) (r : Run) → RunOf s r → Smallest (loadOf (r .show)) (setOf (r .counts))

@@ -1,22 +1,34 @@
 -- The worked numbers of docs/RULES.md, section 5, as one statement over one table. proofs/Table.antt proves it.
 use Prim.Native.Nat.{ℕ, _<_}
 use mathlib.Core.Path.{_≡_}
+use mathlib.Core.Bool.{Bool, true, false}
 use mathlib.Core.List.{List, [], _∷_, _++_}
-use lib.ListN.{length, replicate, take}
+use lib.IntN.{pos, negsuc}
+use lib.ListN.{length, replicate, take, getD}
 use Rattle.drive.specs.declared.Drive.{Drive}
 use Rattle.drive.specs.declared.Layout.{Layout}
 use Rattle.drive.specs.declared.Session.{Session}
 use Rattle.drive.specs.declared.Show.{Show}
 use Rattle.drive.specs.declared.cost.Worst.the-variants.{Takes}
 use Rattle.drive.specs.declared.refusal.Refusal.the-variants.{NoSet}
+use Rattle.drive.specs.declared.refusal.Check.the-variants.{Within}
 use Rattle.drive.specs.Limits.{Between, noLayout, noSession}
 use Rattle.drive.specs.Lists.{listed}
 use Rattle.drive.specs.Worst.{worstOf}
+use Rattle.theory.specs.Spare.{slackBy}
 use Rattle.verdict.specs.declared.Decision.{Decision}
 use Rattle.verdict.specs.declared.Trial.{Trial}
 use Rattle.verdict.specs.declared.Verdict.the-variants as verdict
 use Rattle.verdict.specs.declared.Answer.the-variants as answer
 use Rattle.verdict.specs.Answers.{DecisionIs, TrialIs, refusedFor}
+use Rattle.run.specs.declared.State.{State}
+use Rattle.run.specs.declared.Underway.the-variants.{Nothing}
+use Rattle.run.specs.declared.Run.{Run}
+use Rattle.run.specs.Run.{noState}
+use Rattle.playback.specs.Answers.{passOf}
+use Rattle.spare.specs.declared.Spare.the-variants.{Time}
+use Rattle.spare.specs.Times.{aheadAt, timeAt}
+use Rattle.spare.specs.Answers.{workaheadOf, slackOf, startOf}
 
 -- A = 51,200, N = 10
 abbrev pub box : Drive
@@ -112,6 +124,49 @@ pub record P7 : Type 0 where
       DecisionIs (showOf Z (replicate 9 clip ++ (slower ∷ [])))
       (yes-with 309090000 (replicate 9 3091 ++ (3060 ∷ [])) (replicate 9 30940000 ++ (30630000 ∷ [])))
 
+-- A run of a show with these counts and states, in table order at its first session, with nothing under way; zeros in the unused places
+abbrev pub runOf : Show → List ℕ → List State → Bool → Run
+runOf s counts states started =
+    record {
+      show = s;
+      counts = places counts;
+      states = take 16 (states ++ replicate 16 noState);
+      order = places (listed (λ i. i) (s .playing));
+      place = 0;
+      left = getD counts 0 0;
+      underway = Nothing;
+      started = started;
+    }
+
+-- bytes put, none taken
+abbrev pub loaded : ℕ → State
+loaded P = record { put = P; taken = 0; clock = 0 }
+
+-- p8. p3's set, workaheads 156,000, 60,000, 110,000: slack 0. (In table order it would be -46,000.) It starts, and cycles in that order.
+abbrev pub eighth : Run
+eighth = runOf (showOf X (replicate 3 clip)) (replicate 3 2) (loaded 79873 ∷ loaded 30721 ∷ loaded 56321 ∷ []) false
+
+pub record P8 : Type 0 where
+  pub first : workaheadOf eighth 0 ≡ record { spare = Time (pos 156000); run = eighth }
+  pub second : workaheadOf eighth 1 ≡ record { spare = Time (pos 60000); run = eighth }
+  pub third : workaheadOf eighth 2 ≡ record { spare = Time (pos 110000); run = eighth }
+  pub slack : slackOf eighth ≡ record { spare = Time (pos 0); run = eighth }
+  pub table : slackBy (λ i. i) (aheadAt eighth) (timeAt eighth) 3 ≡ negsuc 45999
+  pub start : startOf eighth .check ≡ Within
+  pub order : startOf eighth .run .order ≡ places (1 ∷ 2 ∷ 0 ∷ [])
+
+-- p9. One microbyte behind the cushion: workahead -1.
+abbrev pub clocked : ℕ → Run
+clocked C = runOf (showOf X (clip ∷ [])) (1 ∷ []) (record { put = 1; taken = 1; clock = C } ∷ []) true
+
+pub record P9 : Type 0 where
+  pub behind : workaheadOf (clocked 1) 0 ≡ record { spare = Time (negsuc 0); run = clocked 1 }
+
+-- p10. Started, C = 0, G = 1: after 1 µs C is 512,000, after 2 µs 1,000,000.
+pub record P10 : Type 0 where
+  pub one : passOf (clocked 0) 1 ≡ record { check = Within; run = clocked 512000 }
+  pub two : passOf (clocked 0) 2 ≡ record { check = Within; run = clocked 1000000 }
+
 pub record Table : Type 0 where
   -- An empty show is accepted with L = 0.
   pub empty : DecisionIs (showOf X []) (yes-with 0 [] [])
@@ -122,3 +177,6 @@ pub record Table : Type 0 where
   pub p5 : P5
   pub p6 : P6
   pub p7 : P7
+  pub p8 : P8
+  pub p9 : P9
+  pub p10 : P10

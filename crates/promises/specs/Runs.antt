@@ -1,24 +1,32 @@
 -- The laws of a run, over every call that there is: docs/RULES.md, section 9. proofs/Runs.antt proves them.
-use Prim.Native.Nat.{ℕ, _<_}
+use Prim.Native.Nat.{ℕ, _≤_, _<_}
 use mathlib.Core.Path.{_≡_}
+use mathlib.Core.Bool.{true, false}
+use lib.IntN.{ℤ}
 use lib.ListN.{length}
+use lib.Signed.{_≤ℤ_}
 use Rattle.drive.specs.declared.Show.{Show}
 use Rattle.drive.specs.declared.refusal.Refusal.{Refusal}
 use Rattle.drive.specs.declared.refusal.Refusal.the-variants.{Damaged}
 use Rattle.drive.specs.declared.refusal.Check.the-variants.{Within, Refused}
+use Rattle.theory.specs.Spare.{slackBy}
 use Rattle.run.specs.declared.Run.{Run}
 use Rattle.run.specs.declared.Opened.{Opened}
-use Rattle.run.specs.Run.{playing}
+use Rattle.run.specs.Run.{playing, stateAt, seatAt}
 use Rattle.run.specs.Sound.{SoundRun}
 use Rattle.run.specs.Opening.{OpenIs}
-use Rattle.run.specs.Laws.{Kept, Ahead}
+use Rattle.run.specs.Laws.{Ahead}
 use Rattle.playback.specs.Answers.{passOf, takeOf, finishOf}
 use Rattle.scheduler.specs.declared.Choice.the-variants as choice
 use Rattle.scheduler.specs.Answers.{chooseOf}
+use Rattle.spare.specs.declared.Spare.the-variants as spare
+use Rattle.spare.specs.Times.{aheadAt, timeAt}
+use Rattle.spare.specs.Answers.{workaheadOf, slackOf, startOf}
 
 -- a run as a program holds it
-abbrev pub Sized : Run → Type 0
-Sized r = length (r .states) ≡ 16
+pub record Sized (r : Run) : Type 0 where
+  pub states : length (r .states) ≡ 16
+  pub order : length (r .order) ≡ 16
 
 -- The run after one call, granted or refused.
 pub data After (r : Run) : Run → Type 0 where
@@ -26,6 +34,9 @@ pub data After (r : Run) : Run → Type 0 where
   take : (i n : ℕ) → After r (takeOf r i n .run)
   choose : After r (chooseOf r .run)
   finish : (d : ℕ) → After r (finishOf r d .run)
+  workahead : (i : ℕ) → After r (workaheadOf r i .run)
+  slack : After r (slackOf r .run)
+  start : After r (startOf r .run)
 
 -- The runs of a show: it is opened, and calls follow, any calls in any order.
 pub data RunOf (s : Show) : Run → Type 0 where
@@ -38,6 +49,16 @@ pub record Stays (r : Run) : Type 0 where
   pub take : (i n : ℕ) → takeOf r i n ≡ record { check = Refused Damaged; run = r }
   pub choose : chooseOf r ≡ record { choice = choice.Refused Damaged; run = r }
   pub finish : (d : ℕ) → finishOf r d ≡ record { check = Refused Damaged; run = r }
+  pub workahead : (i : ℕ) → workaheadOf r i ≡ record { spare = spare.Refused Damaged; run = r }
+  pub slack : slackOf r ≡ record { spare = spare.Refused Damaged; run = r }
+  pub start : startOf r ≡ record { check = Refused Damaged; run = r }
+
+-- q is r but for what plays: the show, the counts, and every unused place are as they were.
+pub record Unused (r q : Run) : Type 0 where
+  pub show : q .show ≡ r .show
+  pub counts : q .counts ≡ r .counts
+  pub states : (i : ℕ) → playing r ≤ i → stateAt q i ≡ stateAt r i
+  pub order : (k : ℕ) → playing r ≤ k → seatAt q k ≡ seatAt r k
 
 pub record Runs : Type 0 where
   -- An opened run is sound, and is of the show as it was given.
@@ -52,8 +73,18 @@ pub record Runs : Type 0 where
   pub take-refused : (r : Run) (i n : ℕ) (w : Refusal) → takeOf r i n .check ≡ Refused w → takeOf r i n .run ≡ r
   pub choose-refused : (r : Run) (w : Refusal) → chooseOf r .choice ≡ choice.Refused w → chooseOf r .run ≡ r
   pub finish-refused : (r : Run) (d : ℕ) (w : Refusal) → finishOf r d .check ≡ Refused w → finishOf r d .run ≡ r
+  pub start-refused : (r : Run) (w : Refusal) → startOf r .check ≡ Refused w → startOf r .run ≡ r
+  pub workahead-back : (r : Run) (i : ℕ) → workaheadOf r i .run ≡ r
+  pub slack-back : (r : Run) → slackOf r .run ≡ r
   pub damaged-stays : (r : Run) → (SoundRun r → ⊥) → Stays r
   -- Unused places never change.
-  pub after-kept : (r q : Run) → Sized r → After r q → Kept r q
-  -- Loaded until Idle, every session has a workahead above L.
+  pub after-unused : (r q : Run) → Sized r → After r q → Unused r q
+  -- Once started, a run stays started, and its cycle stays in the order of the start.
+  pub order-fixed : (r q : Run) → Sized r → After r q → r .started ≡ true → (q .started ≡ true) × (q .order ≡ r .order)
+  -- No order gives more slack.
+  pub no-order-more : (r : Run) (place : ℕ → ℕ) (z : ℤ) → slackOf r .spare ≡ spare.Time z → slackBy place (aheadAt r) (timeAt r) (playing r) ≤ℤ z
+  -- Loaded until Idle, every session has a workahead above L, and the start is granted.
   pub idle-ahead : (r : Run) → SoundRun r → chooseOf r .choice ≡ choice.Idle → (i : ℕ) → i < playing r → Ahead r i
+  pub idle-starts :
+      (r : Run) → SoundRun r → 0 < playing r → r .started ≡ false → chooseOf r .choice ≡ choice.Idle →
+      startOf (chooseOf r .run) .check ≡ Within

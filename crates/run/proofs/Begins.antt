@@ -1,18 +1,18 @@
 -- A run that is opened is sound, and is of the show given. Assumes nothing.
-use Prim.Native.Nat.{ℕ, _<_}
+use Prim.Native.Nat.{ℕ, _≤_, _<_}
 use mathlib.Core.Path.{_≡_, refl, sym, ap, subst, _∙_}
 use mathlib.Core.Bool.{Bool}
 use mathlib.Core.List.{List}
 use native.Mathlib.Nat.{le-refl}
 use native.Mathlib.Omega.{arith}
-use lib.ListN.{getD, getD-replicate}
+use lib.ListN.{length, getD, getD-replicate, length-append, length-replicate}
 use Rattle.drive.specs.declared.Session.{Session}
 use Rattle.drive.specs.declared.Show.{Show}
 use Rattle.drive.specs.declared.refusal.Check.the-variants.{Within}
 use Rattle.drive.specs.Limits.{Between, ShowWithin}
 use Rattle.drive.specs.Lists.{listed, padded}
 use Rattle.drive.proofs.Checks.{within-refused}
-use Rattle.drive.proofs.Lists.{filled-none, filled-at}
+use Rattle.drive.proofs.Lists.{listed-length, filled-none, filled-at}
 use Rattle.theory.specs.Counts.{Good, Smallest}
 use Rattle.theory.specs.Shows.{loadOf}
 use Rattle.theory.proofs.Rounds.{good-same}
@@ -32,6 +32,10 @@ use Rattle.run.proofs.Steps.{nothing-read}
 
 table-at : (n k : ℕ) → k < n → getD (tableOrder n) k 0 ≡ k
 table-at n k l = filled-at 16 0 (λ i. i) n k 0 l
+
+pub table-length : (n : ℕ) → n ≤ 16 → length (tableOrder n) ≡ 16
+unfolding padded
+table-length n h = rw (length-append, listed-length (λ (i : ℕ). i) n, length-replicate) (omega arith)
 
 table-names : (n : ℕ) → NamesEach (tableOrder n) n
 table-names n =

@@ -9,10 +9,10 @@ use borrow.Author.Count.{below-more}
 use Rattle.drive.specs.declared.Show.{Show}
 use Rattle.drive.specs.declared.refusal.Refusal.the-variants.{Damaged}
 use Rattle.drive.specs.declared.refusal.Check.{Check}
-use Rattle.drive.specs.declared.refusal.Check.the-variants.{Refused}
+use Rattle.drive.specs.declared.refusal.Check.the-variants.{Within, Refused}
 use Rattle.drive.specs.Checks.{first}
 use Rattle.drive.specs.Limits.{Tells, ShowWithin}
-use Rattle.drive.proofs.Checks.{unless-kept, unless-broken, first-refused, first-within}
+use Rattle.drive.proofs.Checks.{within-refused, unless-kept, unless-broken, first-refused, first-within}
 use Rattle.theory.specs.Counts.{Good}
 use Rattle.theory.specs.Shows.{loadOf}
 use Rattle.verdict.specs.declared.Answer.the-variants as answer
@@ -20,13 +20,14 @@ use Rattle.verdict.specs.declared.Trial.{Trial}
 use Rattle.verdict.specs.Answers.{TrialIs, holds, fails, untried, setOf}
 use Rattle.verdict.proofs.Once.{within-outside}
 use Rattle.run.specs.declared.Run.{Run}
+use Rattle.run.specs.declared.Underway.{Underway}
 use Rattle.run.specs.declared.Underway.the-variants.{Nothing, Read}
 use Rattle.run.specs.Run.{playing, clipAt, stateAt, seatAt, wholeAt, RoomAt, PutAt}
 use Rattle.run.proofs.Steps.{nothing-read}
 use Rattle.run.specs.Sound.{StateSound, StatesSound, Resting, Turning, MayRead, CycleSound, SoundRun}
 use Rattle.run.specs.declared.sound.Test.{Test}
 use Rattle.run.specs.declared.sound.Test.the-variants as test
-use Rattle.run.specs.Decisions.{sound?, testOf, soundCheck}
+use Rattle.run.specs.Decisions.{sound?, testOf, freeCheck, soundCheck}
 
 -- ---- the counts
 
@@ -139,3 +140,8 @@ module _ (r : Run) (c : Check) where
 
   pub sound-then : SoundRun r → first (soundCheck r) c ≡ c
   sound-then s = first-within _ c (unless-kept (sound? r) Damaged s)
+
+-- Nothing is under way where 13 is not given.
+pub free-nothing : (u : Underway) → freeCheck u ≡ Within → u ≡ Nothing
+free-nothing Nothing e = refl
+free-nothing (Read i) e = within-refused (sym e)

@@ -8,14 +8,17 @@ use Rattle.drive.specs.declared.refusal.Refusal.{Refusal}
 use Rattle.drive.specs.declared.refusal.Refusal.the-variants.{PutLimit}
 use Rattle.drive.specs.declared.refusal.Check.{Check}
 use Rattle.drive.specs.declared.refusal.Check.the-variants.{Within, Refused}
+use Rattle.drive.proofs.Checks.{first-right}
+use Rattle.run.specs.declared.Underway.the-variants as underway
 use Rattle.run.specs.declared.Run.{Run}
 use Rattle.run.specs.Run.{playing, seatAt, onward, PutAt}
 use Rattle.run.specs.Sound.{SoundRun}
-use Rattle.run.specs.Decisions.{put?}
+use Rattle.run.specs.Decisions.{put?, freeCheck, soundCheck}
 use Rattle.run.specs.Steps.{skipped, idled, begun}
 use Rattle.run.specs.Laws.{Kept, Ahead}
 use Rattle.run.proofs.Searches.{skipped-room}
 use Rattle.run.proofs.Steps.{ite-either, idled-sound, begun-sound}
+use Rattle.run.proofs.Tests.{free-nothing}
 use Rattle.run.proofs.Full.{idle-full}
 use Rattle.run.proofs.Rest.{same-kept, idled-kept, begun-kept}
 use Rattle.scheduler.specs.declared.Choice.the-variants as choice
@@ -99,3 +102,24 @@ choice-ahead r s c (read m p) e i l = read-idle e
 -- Loaded until Idle, every session is more than a round ahead.
 pub choose-ahead : (r : Run) → SoundRun r → chooseOf r .choice ≡ choice.Idle → (i : ℕ) → i < playing r → Ahead r i
 choose-ahead r s e i l = choice-ahead r s (chooseOf r) (answered r) e i l
+
+-- ---- after Idle
+
+idle-next : (r : Run) (c : Chosen) → Answered r c → c .choice ≡ choice.Idle → 0 < playing r → c .run ≡ idled r
+idle-next r c (refused w) e l = idle-refused (sym e)
+idle-next r c (empty z) e l = absurd (let f : ⊥ = omega arith in f)
+idle-next r c (idle h g) e l = refl
+idle-next r c (read h p) e l = read-idle e
+
+-- Nobody had room: the place has its whole count left again.
+pub idle-run : (r : Run) → chooseOf r .choice ≡ choice.Idle → 0 < playing r → chooseOf r .run ≡ idled r
+idle-run r e l = idle-next r (chooseOf r) (answered r) e l
+
+-- Nothing was under way.
+pub idle-free : (r : Run) → chooseOf r .choice ≡ choice.Idle → r .underway ≡ underway.Nothing
+unfolding chooseOf chooseCheck
+idle-free r e = free-nothing (r .underway) (first-right (soundCheck r) (freeCheck (r .underway)) (from (chooseCheck r) refl e))
+  where
+    from : (k : Check) → chooseCheck r ≡ k → chosenBy k r .choice ≡ choice.Idle → chooseCheck r ≡ Within
+    from Within f g = f
+    from (Refused w) f g = idle-refused (sym g)

@@ -21,7 +21,6 @@ use Rattle.theory.specs.Shows.{loadOf}
 use Rattle.theory.proofs.Floor.{floor-from}
 use Rattle.theory.proofs.Spare.{slack-enough, claim-nine, rank-below}
 use Rattle.verdict.specs.Answers.{setOf}
-use Rattle.run.specs.declared.Underway.{Underway}
 use Rattle.run.specs.declared.Underway.the-variants as underway
 use Rattle.run.specs.declared.Run.{Run}
 use Rattle.run.specs.Run.{playing, stateAt, clipAt}
@@ -30,9 +29,10 @@ use Rattle.run.specs.Decisions.{false?, sound?, freeCheck, soundCheck}
 use Rattle.run.specs.Laws.{Ahead}
 use Rattle.run.proofs.States.{true-false}
 use Rattle.run.proofs.Steps.{nothing-read}
-use Rattle.run.proofs.Orders.{names-below}
+use Rattle.run.proofs.Tests.{free-nothing}
 use Rattle.playback.specs.declared.Moved.{Moved}
-use Rattle.playback.specs.Answers.{moved}
+use Rattle.playback.specs.Answers.{moved, sessionCheck}
+use Rattle.spare.specs.declared.Spare.the-variants as spare
 use Rattle.playback.proofs.Laws.{moved-either, moved-back}
 use Rattle.spare.specs.Times.{aheadAt, timeAt, slackTime, placeAt, startOrder, running}
 use Rattle.spare.specs.Answers.{spared, workaheadOf, someCheck, slackOf, onceCheck, slackCheck, startCheck, startOf}
@@ -68,10 +68,6 @@ record Starts (r : Run) : Type 0 where
   free : r .underway ≡ underway.Nothing
   some : 0 < playing r
 
-nothing : (u : Underway) → freeCheck u ≡ Within → u ≡ underway.Nothing
-nothing underway.Nothing e = refl
-nothing (underway.Read i) e = within-refused (sym e)
-
 module _ (r : Run) where
   starts : startCheck r ≡ Within → Starts r
   unfolding startCheck
@@ -84,7 +80,7 @@ module _ (r : Run) where
       record {
         sound = unless-within (sound? r) refusal.Damaged (first-left (soundCheck r) (first (onceCheck r) late) e);
         fresh = unless-within (false? (r .started)) refusal.AlreadyStarted (first-left (onceCheck r) late a);
-        free = nothing (r .underway) (first-left (freeCheck (r .underway)) last b);
+        free = free-nothing (r .underway) (first-left (freeCheck (r .underway)) last b);
         some = unless-within (decLt 0 (playing r)) refusal.NoSession (first-left (someCheck r) (slackCheck r) c);
       }
 
@@ -128,6 +124,15 @@ module _ (r : Run) where
   unfolding startOf
   start-refused = moved-back (startCheck r) r (running r)
 
+  -- Granted, it had not started before.
+  pub start-fresh : startOf r .check ≡ Within → r .started ≡ false
+  unfolding startOf
+  start-fresh e = from (startCheck r) refl e
+    where
+      from : (k : Check) → startCheck r ≡ k → moved k r (running r) .check ≡ Within → r .started ≡ false
+      from Within f g = starts f .fresh
+      from (Refused w) f g = within-refused (sym g)
+
   pub start-granted : startOf r .check ≡ Within → Started r (startOf r .run)
   unfolding startOf
   start-granted e = from (startCheck r) e
@@ -155,3 +160,21 @@ module _ (r : Run) where
     far-starts e u =
         ap (λ (m : Moved). m .check)
         (sym (start-begins r s e u _ l (begin-granted r (running r) (λ n. clashℤ n far-slack) refl)))
+
+-- ---- a time that was told
+
+time-told : (k : Check) (z y : ℤ) (r : Run) → spared k z r .spare ≡ spare.Time y → (k ≡ Within) × (y ≡ z)
+time-told Within z y r e = (refl, (let f : z ≡ y = cc in sym f))
+time-told (Refused w) z y r e = absurd (let z : _≡_ {A = ℕ} 0 1 = cc in let f : ⊥ = omega arith in f)
+
+pub workahead-told : (r : Run) (i : ℕ) (y : ℤ) → workaheadOf r i .spare ≡ spare.Time y → (i < playing r) × (y ≡ aheadAt r i)
+unfolding workaheadOf
+workahead-told r i y e =
+    let t = time-told (first (soundCheck r) (sessionCheck r i)) (aheadAt r i) y r e in
+    (unless-within (decLt i (playing r)) refusal.NoSession (first-right (soundCheck r) (sessionCheck r i) (t .0)), t .1)
+
+pub slack-told : (r : Run) (y : ℤ) → slackOf r .spare ≡ spare.Time y → (0 < playing r) × (y ≡ slackTime r)
+unfolding slackOf
+slack-told r y e =
+    let t = time-told (first (soundCheck r) (someCheck r)) (slackTime r) y r e in
+    (unless-within (decLt 0 (playing r)) refusal.NoSession (first-right (soundCheck r) (someCheck r) (t .0)), t .1)
