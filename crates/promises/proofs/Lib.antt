@@ -1,8 +1,8 @@
+pub mod Worked
 pub mod Table
 pub mod Trips
 pub mod Verdict
 pub mod Lighter
 pub mod Reports
 pub mod Runs
-pub mod Worked
 pub mod Spare

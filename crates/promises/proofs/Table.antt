@@ -29,6 +29,7 @@ use Rattle.theory.proofs.Overload.{overload-refuses}
 use Rattle.theory.proofs.Shows.{show-sound}
 use Rattle.verdict.specs.declared.Answer.the-variants.{Fails}
 use Rattle.verdict.specs.Answers.{DecisionIs, accepted, no-set, TrialIs, fails, acceptedWith, setOf, timedAs}
+use Rattle.promises.proofs.Worked.{p8, p9, p10}
 use Rattle.promises.specs.Numbers.{Table, X, Z, far, buffered, clip, slower, showOf, places, no-set-found}
 
 -- ---- tests that compute
@@ -157,4 +158,7 @@ table =
           };
       p6 = record { hundred = p6-at };
       p7 = record { under = settles (showOf Z (replicate 9 clip ++ (slower ∷ []))) refl 1970 309090000 refl tt tt };
+      p8 = p8;
+      p9 = p9;
+      p10 = p10;
     }

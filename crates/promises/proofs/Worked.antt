@@ -8,7 +8,7 @@ use native.Mathlib.Decide.{decLe, decLt, ℕ-discrete}
 use native.Mathlib.Omega.{arith}
 use native.Mathlib.Nat.{le-refl}
 use lib.Dec.{T}
-use lib.IntN.{ℤ, pos, negsuc, ℤ-discrete}
+use lib.IntN.{pos, negsuc}
 use lib.ListN.{replicate}
 use Rattle.drive.specs.declared.Session.{Session}
 use Rattle.drive.specs.declared.Show.{Show}
@@ -19,15 +19,21 @@ use Rattle.drive.specs.Bound.{worstTime, edges, ceil}
 use Rattle.drive.specs.Worst.{costOf}
 use Rattle.theory.specs.Sum.{sumTo}
 use Rattle.theory.specs.Floor.{floorZ}
-use Rattle.theory.specs.Spare.{less?, leastTo, slackBy, before?, rank}
+use Rattle.theory.specs.Spare.{less?, leastTo, slackBy, same?, before?, rank}
+use Rattle.theory.specs.Counts.{Smallest}
+use Rattle.theory.specs.Shows.{loadOf, Easier, eased}
+use Rattle.verdict.specs.Answers.{setOf}
 use Rattle.run.specs.declared.Run.{Run}
 use Rattle.run.specs.Sound.{SoundRun}
 use Rattle.run.specs.Decisions.{below?, some?, show?, good?, false?, true?, waiting?, state?, named?, nothing?, room?, put?, mayRead?, underway?, cycle?, sound?}
 use Rattle.run.specs.Steps.{changed, passed}
+use Rattle.playback.specs.declared.Moved.{Moved}
 use Rattle.playback.proofs.Calls.{pass-granted}
+use Rattle.spare.specs.declared.Spared.{Spared}
 use Rattle.spare.specs.Times.{named, running}
 use Rattle.spare.proofs.Calls.{workahead-time, slack-time, start-begins, begin-granted}
-use Rattle.promises.specs.Numbers.{X, clip, showOf, runOf, eighth, clocked, P8, P9, P10}
+use Rattle.promises.specs.Numbers.{X, clip, showOf, places, runOf, loaded, eighth, clocked, P8, P9, P10}
+use Rattle.promises.specs.Lighter.{Worse}
 
 -- ---- a test that computes
 
@@ -43,3 +49,98 @@ from-told (no h) t = absurd t
 eighth-sound : SoundRun eighth
 unfolding told sound? show? good? below? state? named? some? cycle? false? true? waiting? nothing? room? put? mayRead? underway? counts? drive? layout? session? between? sumTo costOf worstTime edges ceil listed decLe decLt ℕ-discrete Dec·and
 eighth-sound = from-told (sound? eighth) tt
+
+-- ---- p8
+
+pub p8 : P8
+unfolding floorZ leastTo slackBy before? rank less? same? ℕ-discrete sumTo costOf worstTime edges ceil listed decLe decLt named running
+p8 =
+    let begins = start-begins eighth eighth-sound refl refl _ (omega arith) (begin-granted eighth (running eighth) (λ n. absurd (n .lt)) refl) in
+    record {
+      first = sym (workahead-time eighth 0 eighth-sound (pos 156000) (omega arith) refl);
+      second = sym (workahead-time eighth 1 eighth-sound (pos 60000) (omega arith) refl);
+      third = sym (workahead-time eighth 2 eighth-sound (pos 110000) (omega arith) refl);
+      slack = sym (slack-time eighth eighth-sound (pos 0) (omega arith) refl);
+      table = refl;
+      start = ap (λ (m : Moved). m .check) (sym begins);
+      order = ap (λ (m : Moved). m .run .order) (sym begins);
+    }
+
+-- ---- p9 and p10
+
+clocked-first : SoundRun (clocked 0)
+unfolding told sound? show? good? below? state? named? some? cycle? false? true? waiting? nothing? room? put? mayRead? underway? counts? drive? layout? session? between? sumTo costOf worstTime edges ceil listed decLe decLt ℕ-discrete Dec·and
+clocked-first = from-told (sound? (clocked 0)) tt
+
+clocked-next : SoundRun (clocked 1)
+unfolding told sound? show? good? below? state? named? some? cycle? false? true? waiting? nothing? room? put? mayRead? underway? counts? drive? layout? session? between? sumTo costOf worstTime edges ceil listed decLe decLt ℕ-discrete Dec·and
+clocked-next = from-told (sound? (clocked 1)) tt
+
+pub p9 : P9
+unfolding floorZ leastTo slackBy before? rank less? same? ℕ-discrete sumTo costOf worstTime edges ceil listed decLe decLt
+p9 = record { behind = sym (workahead-time (clocked 1) 0 clocked-next (negsuc 0) (omega arith) refl) }
+
+pub p10 : P10
+unfolding changed passed listed
+p10 =
+    record {
+      one = sym (pass-granted (clocked 0) 1 clocked-first (clocked 512000) (omega arith) refl);
+      two = sym (pass-granted (clocked 0) 2 clocked-first (clocked 1000000) (omega arith) refl);
+    }
+
+-- ---- the proviso
+
+-- One session alone, at a rate of 1 and at the rate of the worked numbers; nothing is put yet, so both are behind their cushions.
+abbrev slow : Session
+slow = record { rate = 1; cushion = 1; buffer = 200000000; layout = 0 }
+
+abbrev alone : Session → Run
+alone x = runOf (showOf X (x ∷ [])) (1 ∷ []) (loaded 0 ∷ []) false
+
+slow-sound : SoundRun (alone slow)
+unfolding told sound? show? good? below? state? named? some? cycle? false? true? waiting? nothing? room? put? mayRead? underway? counts? drive? layout? session? between? sumTo costOf worstTime edges ceil listed decLe decLt ℕ-discrete Dec·and
+slow-sound = from-told (sound? (alone slow)) tt
+
+clip-sound : SoundRun (alone clip)
+unfolding told sound? show? good? below? state? named? some? cycle? false? true? waiting? nothing? room? put? mayRead? underway? counts? drive? layout? session? between? sumTo costOf worstTime edges ceil listed decLe decLt ℕ-discrete Dec·and
+clip-sound = from-told (sound? (alone clip)) tt
+
+-- A count of 1 is as small as a count can be.
+one-smallest : (x : Session) → SoundRun (alone x) → Smallest (loadOf (showOf X (x ∷ []))) (setOf (places (1 ∷ [])))
+one-smallest x s = record { good = s .counts; least = λ o g i l. one i l (g .counted i l) }
+  where
+    one : (i : ℕ) → i < 1 → {n : ℕ} → 1 ≤ n → setOf (places (1 ∷ [])) i ≤ n
+    one zero l h = h
+    one (suc i) l h = absurd (let f : ⊥ = omega arith in f)
+
+slow-easier : (i : ℕ) → i < 1 → Easier (showOf X (slow ∷ [])) (showOf X (clip ∷ [])) i i
+slow-easier zero l =
+    record {
+      rate = omega arith;
+      cushion = omega arith;
+      buffer = omega arith;
+      layout = record { longest = omega arith; track = omega arith; time = omega arith; rotation = omega arith };
+    }
+slow-easier (suc i) l = absurd (let f : ⊥ = omega arith in f)
+
+pub worse : Worse
+unfolding floorZ leastTo slackBy before? rank less? same? ℕ-discrete sumTo costOf worstTime edges ceil listed decLe decLt
+worse =
+    record {
+      light = alone slow;
+      heavy = alone clip;
+      lightly =
+          record {
+            lighter = eased (record { drive = refl; playing = refl; session = slow-easier });
+            light = slow-sound;
+            heavy = clip-sound;
+            after = one-smallest slow slow-sound;
+            before = one-smallest clip clip-sound;
+            states = λ i l. refl;
+          };
+      less = negsuc 1041999;
+      more = negsuc 42001;
+      light-slack = ap (λ (s : Spared). s .spare) (sym (slack-time (alone slow) slow-sound (negsuc 1041999) (omega arith) refl));
+      heavy-slack = ap (λ (s : Spared). s .spare) (sym (slack-time (alone clip) clip-sound (negsuc 42001) (omega arith) refl));
+      worse = record { lt = tt };
+    }
