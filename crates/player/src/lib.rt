@@ -41,3 +41,12 @@ pub fn take_from(state: State, session: Session, started: bool, n: u64) -> Drawn
         state: next,
     }
 }
+
+// The same on a state that the player lends.
+pub fn take(state: &mut State, session: Session, started: bool, n: u64) -> Check
+    ensures { λ r. ⌜ (r ≡ drawnOf (now (state .entry)) session started n .check) × (now (state .exit) ≡ drawnOf (now (state .entry)) session started n .state) ⌝ }
+{
+    let drawn = take_from(*state, session, started, n);
+    *state = drawn.state;
+    drawn.check
+}
