@@ -50,3 +50,12 @@ pub fn take(state: &mut State, session: Session, started: bool, n: u64) -> Check
     *state = drawn.state;
     drawn.check
 }
+
+// For a caller that has nothing to lend: plain parameters.
+pub fn take_lent(state: State, session: Session, started: bool, n: u64) -> Drawn
+    ensures { λ r. ⌜ r ≡ drawnOf state session started n ⌝ }
+{
+    let mut lent = state;
+    let check = take(&mut lent, session, started, n);
+    Drawn { check, state: lent }
+}
