@@ -52,10 +52,10 @@ pub fn take(state: &mut State, session: Session, started: bool, n: u64) -> Check
 }
 
 // For a caller that has nothing to lend: plain parameters.
-pub fn take_lent(state: State, session: Session, started: bool, n: u64) -> Drawn
-    ensures { λ r. ⌜ r ≡ drawnOf state session started n ⌝ }
+pub fn take_lent(given: State, session: Session, started: bool, n: u64) -> Drawn
+    ensures { λ r. ⌜ r ≡ drawnOf given session started n ⌝ }
 {
-    let mut lent = state;
+    let mut lent = given;
     let check = take(&mut lent, session, started, n);
     Drawn { check, state: lent }
 }
