@@ -1,28 +1,29 @@
 -- What each call answers, case by case. Assumes nothing.
-use Prim.Native.Nat.{ℕ, _-_, _≤_, _<_}
+use Prim.Native.Nat.{ℕ, _≤_, _<_}
 use mathlib.Core.Path.{_≡_, sym, ap, subst, _∙_}
-use mathlib.Core.Bool.{true, false}
 use native.Mathlib.Decide.{decLe, decLt}
 use native.Mathlib.Omega.{arith}
-use lib.ListN.{length}
+use lib.ListN.{length, set}
 use Rattle.drive.specs.declared.refusal.Refusal.{Refusal}
 use Rattle.drive.specs.declared.refusal.Refusal.the-variants as refusal
 use Rattle.drive.specs.declared.refusal.Check.{Check}
 use Rattle.drive.specs.declared.refusal.Check.the-variants.{Within, Refused}
-use Rattle.drive.specs.Checks.{first}
 use Rattle.drive.proofs.Checks.{unless-kept, unless-broken, first-refused, first-within}
+use Rattle.run.specs.declared.State.{State}
 use Rattle.run.specs.declared.Underway.{Underway}
 use Rattle.run.specs.declared.Underway.the-variants as underway
 use Rattle.run.specs.declared.Run.{Run}
-use Rattle.run.specs.Run.{playing, stateAt}
+use Rattle.run.specs.Run.{playing, stateAt, clipAt, withStates}
 use Rattle.run.specs.Sound.{SoundRun}
-use Rattle.run.specs.Decisions.{true?}
 use Rattle.run.specs.Steps.{passed, taken, landed}
-use Rattle.run.proofs.States.{true-false}
 use Rattle.run.proofs.Steps.{passed-sound}
 use Rattle.run.proofs.Tests.{damaged-first, sound-then}
+use Rattle.player.specs.declared.Drawn.{Drawn}
+use Rattle.player.specs.Answers.{drawnOf}
+use Rattle.player.proofs.Takes.{take-sound}
+use Rattle.player.proofs.Laws.{take-answers, granted-draws}
 use Rattle.playback.specs.declared.Moved.{Moved}
-use Rattle.playback.specs.Answers.{moved, spanCheck, passCheck, passOf, sessionCheck, startCheck, takeCheck, takeOf}
+use Rattle.playback.specs.Answers.{moved, spanCheck, passCheck, passOf, takeCheck, takeOf}
 use Rattle.playback.specs.Answers.{busyCheck, finishCheck, landedFor, finishOf}
 
 -- ---- by the check
@@ -76,34 +77,25 @@ module _ (r : Run) (i n : ℕ) where
         moved-refused _ r _ refusal.NoSession
         (sound-then r _ s ∙ first-refused _ _ (unless-broken (decLt i (playing r)) refusal.NoSession (λ g. let f : ⊥ = omega arith in f)))
 
-    module _ (l : i < playing r) where
-      after : (c : Check) → first (sessionCheck r i) c ≡ c
-      after c = first-within _ c (unless-kept (decLt i (playing r)) refusal.NoSession l)
+    module _ (l : i < playing r) (d : Drawn) (e : d ≡ drawnOf (stateAt r i) (clipAt r i) (r .started) n) where
+      -- Of a session that plays, the player's answer counts.
+      answered : takeCheck r i n ≡ d .check
+      unfolding takeCheck
+      answered =
+          sound-then r _ s ∙ first-within _ _ (unless-kept (decLt i (playing r)) refusal.NoSession l)
+          ∙ sym (take-sound _ _ _ n (s .states i l)) ∙ sym (take-answers (stateAt r i) (clipAt r i) (r .started) n)
+          ∙ ap (λ (x : Drawn). x .check) (sym e)
 
-      pub take-early : r .started ≡ false → refused r refusal.NotStarted ≡ takeOf r i n
-      unfolding takeOf takeCheck
-      take-early e =
-          moved-refused _ r _ refusal.NotStarted
-          (sound-then r _ s ∙ after _
-          ∙ first-refused _ _ (unless-broken (true? (r .started)) refusal.NotStarted (λ g. true-false (sym g ∙ e))))
+      pub take-handed : (w : Refusal) → d .check ≡ Refused w → _≡_ {A = Moved} (record { check = d .check; run = r }) (takeOf r i n)
+      unfolding takeOf
+      take-handed w f = ap (λ (k : Check). record { check = k; run = r }) f ∙ moved-refused _ r _ w (answered ∙ f)
 
-      module _ (e : r .started ≡ true) where
-        started : (c : Check) → first (startCheck r i n) c ≡ c
-        started c = first-within _ c (unless-kept (true? (r .started)) refusal.NotStarted e)
-
-        abbrev held : ℕ
-        held = stateAt r i .put - stateAt r i .taken
-
-        pub take-over : held < n → refused r refusal.TooMuch ≡ takeOf r i n
-        unfolding takeOf takeCheck
-        take-over m =
-            moved-refused _ r _ refusal.TooMuch
-            (sound-then r _ s ∙ after _ ∙ started _ ∙ unless-broken (decLe n held) refusal.TooMuch (λ g. let f : ⊥ = omega arith in f))
-
-        pub take-granted : (q : Run) → n ≤ held → q ≡ taken r i n → granted q ≡ takeOf r i n
-        unfolding takeOf takeCheck
-        take-granted q m f =
-            moved-granted _ r _ q (sound-then r _ s ∙ after _ ∙ started _ ∙ unless-kept (decLe n held) refusal.TooMuch m) f
+      pub take-granted : d .check ≡ Within → granted (withStates r (set (r .states) i (d .state))) ≡ takeOf r i n
+      unfolding takeOf taken
+      take-granted f =
+          moved-granted _ r _ _ (answered ∙ f)
+          (ap (λ (x : State). withStates r (set (r .states) i x))
+          (ap (λ (x : Drawn). x .state) e ∙ granted-draws _ _ _ n (ap (λ (x : Drawn). x .check) (sym e) ∙ f)))
 
 -- ---- finish
 

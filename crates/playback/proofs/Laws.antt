@@ -21,7 +21,8 @@ use Rattle.run.specs.Steps.{passed, taken, landed}
 use Rattle.run.specs.Laws.{Kept}
 use Rattle.run.proofs.Steps.{passed-sound, taken-sound, landed-sound, read-below}
 use Rattle.run.proofs.Rest.{same-kept, passed-kept, taken-kept, landed-kept, kept-then}
-use Rattle.playback.specs.Answers.{moved, spanCheck, passCheck, passOf, sessionCheck, startCheck, heldCheck, takeCheck, takeOf}
+use Rattle.player.specs.Answers.{startCheck, heldCheck}
+use Rattle.playback.specs.Answers.{moved, spanCheck, passCheck, passOf, sessionCheck, takeCheck, takeOf}
 use Rattle.playback.specs.Answers.{busyCheck, finishCheck, landedFor, finishOf}
 use Rattle.playback.proofs.Calls.{passed-reads}
 
@@ -70,15 +71,15 @@ module _ (r : Run) (i n : ℕ) where
   takes : takeCheck r i n ≡ Within → Takes r i n
   unfolding takeCheck
   takes e =
-      let late = first (startCheck r i n) (heldCheck r i n) in
+      let late = first (startCheck (r .started)) (heldCheck (stateAt r i) n) in
       let a = first-right (soundCheck r) (first (sessionCheck r i) late) e in
       let b = first-right (sessionCheck r i) late a in
       record {
         playing = unless-within (decLt i (playing r)) refusal.NoSession (first-left (sessionCheck r i) late a);
-        started = unless-within (true? (r .started)) refusal.NotStarted (first-left (startCheck r i n) (heldCheck r i n) b);
+        started = unless-within (true? (r .started)) refusal.NotStarted (first-left (startCheck (r .started)) (heldCheck (stateAt r i) n) b);
         held =
             unless-within (decLe n (stateAt r i .put - stateAt r i .taken)) refusal.TooMuch
-            (first-right (startCheck r i n) (heldCheck r i n) b);
+            (first-right (startCheck (r .started)) (heldCheck (stateAt r i) n) b);
       }
 
   pub take-sound : playing r ≤ length (r .states) → SoundRun r → SoundRun (takeOf r i n .run)

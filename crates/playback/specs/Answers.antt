@@ -1,5 +1,5 @@
 -- What each call answers: docs/RULES.md, section 9.
-use Prim.Native.Nat.{ℕ, _-_}
+use Prim.Native.Nat.{ℕ}
 use native.Mathlib.Decide.{decLe, decLt}
 use Rattle.drive.specs.declared.refusal.Refusal.the-variants as refusal
 use Rattle.drive.specs.declared.refusal.Check.{Check}
@@ -9,8 +9,9 @@ use Rattle.run.specs.declared.Underway.{Underway}
 use Rattle.run.specs.declared.Underway.the-variants as underway
 use Rattle.run.specs.declared.Run.{Run}
 use Rattle.run.specs.Run.{playing, stateAt}
-use Rattle.run.specs.Decisions.{true?, soundCheck}
+use Rattle.run.specs.Decisions.{soundCheck}
 use Rattle.run.specs.Steps.{passed, taken, landed}
+use Rattle.player.specs.Answers.{startCheck, heldCheck}
 use Rattle.playback.specs.declared.Moved.{Moved}
 
 -- Granted, the next run; refused, the run that was given.
@@ -37,17 +38,9 @@ passOf r d = moved (passCheck r d) r (passed r d)
 abbrev pub sessionCheck : Run → ℕ → Check
 sessionCheck r i = unless (decLt i (playing r)) refusal.NoSession
 
--- 12: before the start
-abbrev pub startCheck : Run → ℕ → ℕ → Check
-startCheck r i n = unless (true? (r .started)) refusal.NotStarted
-
--- 10: more than P - G
-abbrev pub heldCheck : Run → ℕ → ℕ → Check
-heldCheck r i n = unless (decLe n (stateAt r i .put - stateAt r i .taken)) refusal.TooMuch
-
--- 19, 9, 12, 10
+-- 19, 9, 12, 10: of a sound run's session a player is told 12 and 10
 unfoldable pub takeCheck : Run → ℕ → ℕ → Check
-takeCheck r i n = first (soundCheck r) (first (sessionCheck r i) (first (startCheck r i n) (heldCheck r i n)))
+takeCheck r i n = first (soundCheck r) (first (sessionCheck r i) (first (startCheck (r .started)) (heldCheck (stateAt r i) n)))
 
 unfoldable pub takeOf : Run → ℕ → ℕ → Moved
 takeOf r i n = moved (takeCheck r i n) r (taken r i n)

@@ -3,14 +3,15 @@
 mod cycle;
 
 ghost use mathlib.Core.Path.{_≡_};
-ghost use Prim.Native.Nat.{_-_, _*_, _≤_, _<_};
-ghost use Rattle.run.specs.Run.{stateAt, putMost};
+ghost use Prim.Native.Nat.{_*_, _≤_};
+ghost use Rattle.run.specs.Run.{putMost};
 ghost use Rattle.run.specs.Sound.{SoundRun};
-ghost use Rattle.run.specs.Steps.{ticked, passed, taken};
+ghost use Rattle.run.specs.Steps.{ticked, passed};
 ghost use Rattle.playback.specs.Answers.{passOf, takeOf, finishOf};
 use crate::cycle::land;
 use drive::refusal::Check;
 use drive::refusal::Refusal;
+use player::take_from;
 use run::Run;
 use run::State;
 use run::Underway;
@@ -82,19 +83,6 @@ pub fn pass(run: Run, d: u64) -> Moved
     }
 }
 
-// G of a session moves forward.
-fn draw(run: Run, session: usize, n: u64) -> Run
-    requires { ⌜ session < 16 ⌝ }
-    requires { ⌜ (n ≤ stateAt run session .put - stateAt run session .taken) × (stateAt run session .put ≤ putMost) ⌝ }
-    ensures { λ r. ⌜ r ≡ taken run session n ⌝ }
-{
-    let mut state = run.states[session];
-    state.taken += n;
-    let mut next = run;
-    next.states[session] = state;
-    next
-}
-
 // A player takes n bytes of a session: 19, 9, 12, 10.
 pub fn take(run: Run, session: usize, n: u64) -> Moved
     ensures { λ r. ⌜ r ≡ takeOf run session n ⌝ }
@@ -111,22 +99,18 @@ pub fn take(run: Run, session: usize, n: u64) -> Moved
             run,
         };
     }
-    if !run.started {
-        return Moved {
-            check: Check::Refused(Refusal::NotStarted),
-            run,
-        };
-    }
-    let state = run.states[session];
-    if state.put - state.taken < n {
-        return Moved {
-            check: Check::Refused(Refusal::TooMuch),
-            run,
-        };
-    }
+    let show = run.show;
+    let drawn = take_from(run.states[session], show.sessions[session], run.started, n);
+    let check = drawn.check;
+    let Check::Within = check else {
+        return Moved { check, run };
+    };
+    let state = drawn.state;
+    let mut next = run;
+    next.states[session] = state;
     Moved {
         check: Check::Within,
-        run: draw(run, session, n),
+        run: next,
     }
 }
 

@@ -1,12 +1,18 @@
--- `take` moves G forward on one session. Assumes nothing.
+-- `take` hands a session's state to the player's take, and its answer on. Assumes nothing.
+use Prim.Native.Nat.{_<_}
 use native.Mathlib.Omega.{arith}
-use borrow.Author.Tests.{not-true, not-false}
+use borrow.Author.Needs.{needs}
+use Rattle.run.specs.Sound.{SoundRun}
 use Rattle.run.proofs.Tests.{tested-sound, tested-damaged}
-use Rattle.playback.proofs.Calls.{take-damaged, take-nobody, take-early, take-over, take-granted}
-use borrow.Author.Needs.{needs}
-use borrow.Author.Needs.{needs}
+use Rattle.playback.proofs.Calls.{take-damaged, take-nobody, take-handed, take-granted}
 use Rattle.playback.proofs.take.Statement.{statement}
 use Rattle.playback.proofs.take.Tie as tie
+
+sound : (c : tie.After-enum-told) → SoundRun (c .before .before .before .args .t1)
+sound c = tested-sound _ _ (c .before .before .test-run .ensures) (c .enum-told .given .1)
+
+few : (c : tie.Else1) → c .before .before .before .before .args .session < 16
+few c = let n = sound (c .before) .within .counts .sessions in let l = c .if1 .left in omega arith
 
 test-run-requires : tie.Need-test-run-requires
 test-run-requires c κs = search needs
@@ -21,28 +27,44 @@ returns : tie.Need-returns
 returns c = take-damaged _ _ _ (tested-damaged _ _ (c .before .before .test-run .ensures) (c .enum-told2 .given .1))
 
 returns-2 : tie.Need-returns-2
-returns-2 c = take-nobody _ _ _ (tested-sound _ _ (c .before .before .before .test-run .ensures) (c .before .enum-told .given .1)) (c .if1 .taken)
+returns-2 c = take-nobody _ _ _ (sound (c .before)) (c .if1 .taken)
+
+mul-take-from : tie.Need-mul-take-from
+mul-take-from c = let l = few (c .before) in omega arith
+
+element-copy-out-take-from : tie.Need-element-copy-out-take-from
+element-copy-out-take-from c = few (c .before)
+
+mul-take-from-2 : tie.Need-mul-take-from-2
+mul-take-from-2 c = let l = few (c .before .before) in omega arith
+
+element-copy-out-take-from-2 : tie.Need-element-copy-out-take-from-2
+element-copy-out-take-from-2 c = few (c .before .before)
+
+take-from-requires : tie.Need-take-from-requires
+take-from-requires c κs = search needs
+
+enum-told-3 : tie.Need-enum-told-3
+enum-told-3 c = search needs
+
+enum-told-4 : tie.Need-enum-told-4
+enum-told-4 c = search needs
 
 returns-3 : tie.Need-returns-3
-returns-3 c = take-early _ _ _ (tested-sound _ _ (c .before .before .before .before .test-run .ensures) (c .before .before .enum-told .given .1)) (c .before .if1 .left) (not-true _ (c .if2 .taken))
+returns-3 c =
+    let e = c .before .before .before .before .before .before in
+    take-handed _ _ _ (sound (e .before)) (e .if1 .left) _ (c .before .before .take-from .ensures) _ (c .enum-told4 .given .1)
 
 mul-state : tie.Need-mul-state
-mul-state c = let n = (tested-sound _ _ (c .before .before .before .before .test-run .ensures) (c .before .before .enum-told .given .1)) .within .counts .sessions in let l = c .before .if1 .left in omega arith
+mul-state c = let l = few (c .before .before .before .before .before .before .before) in omega arith
 
-element-copy-out-state : tie.Need-element-copy-out-state
-element-copy-out-state c = let n = (tested-sound _ _ (c .before .before .before .before .test-run .ensures) (c .before .before .enum-told .given .1)) .within .counts .sessions in let l = c .before .if1 .left in omega arith
-
-sub-if3 : tie.Need-sub-if3
-sub-if3 c = (tested-sound _ _ (c .before .before .before .before .before .before .test-run .ensures) (c .before .before .before .before .enum-told .given .1)) .states _ (c .before .before .before .if1 .left) .taken
+element-set-from-state : tie.Need-element-set-from-state
+element-set-from-state c = few (c .before .before .before .before .before .before .before)
 
 returns-4 : tie.Need-returns-4
-returns-4 c = take-over _ _ _ (tested-sound _ _ (c .before .before .before .before .before .before .before .test-run .ensures) (c .before .before .before .before .before .enum-told .given .1)) (c .before .before .before .before .if1 .left) (not-false _ (c .before .before .before .if2 .left)) (c .if3 .taken)
-
-draw-requires : tie.Need-draw-requires
-draw-requires c κs = ((let n = (tested-sound _ _ (c .before .before .before .before .before .before .before .test-run .ensures) (c .before .before .before .before .before .enum-told .given .1)) .within .counts .sessions in let l = c .before .before .before .before .if1 .left in omega arith), (c .if3 .left, (tested-sound _ _ (c .before .before .before .before .before .before .before .test-run .ensures) (c .before .before .before .before .before .enum-told .given .1)) .states _ (c .before .before .before .before .if1 .left) .put))
-
-returns-5 : tie.Need-returns-5
-returns-5 c = take-granted _ _ _ (tested-sound _ _ (c .before .before .before .before .before .before .before .before .test-run .ensures) (c .before .before .before .before .before .before .enum-told .given .1)) (c .before .before .before .before .before .if1 .left) (not-false _ (c .before .before .before .before .if2 .left)) _ (c .before .if3 .left) (c .draw .ensures)
+returns-4 c =
+    let e = c .before .before .before .before .before .before .before in
+    take-granted _ _ _ (sound (e .before)) (e .if1 .left) _ (c .before .before .before .take-from .ensures) (c .before .enum-told3 .given .1)
 
 pub take-spec : {M : Type 1} → statement M
 take-spec =
@@ -53,10 +75,14 @@ take-spec =
     enum-told-2
     returns
     returns-2
+    mul-take-from
+    element-copy-out-take-from
+    mul-take-from-2
+    element-copy-out-take-from-2
+    take-from-requires
+    enum-told-3
+    enum-told-4
     returns-3
     mul-state
-    element-copy-out-state
-    sub-if3
-    returns-4
-    draw-requires
-    returns-5)
+    element-set-from-state
+    returns-4)
