@@ -10,7 +10,7 @@ use Rattle.drive.specs.Checks.{first, countsCheck, limitsCheck}
 use Rattle.showfile.specs.declared.trailer.Trailer.{Trailer}
 use Rattle.showfile.specs.declared.Reading.{Reading}
 use Rattle.showfile.specs.declared.Written.{Written}
-use Rattle.showfile.specs.File.{trailerOf, showFrom, fileOf, zeroed}
+use Rattle.showfile.specs.File.{trailerOf, showFrom, fileOf}
 use Rattle.showfile.specs.Checks.{noteLength, lengthCheck, noteCheck, roomCheck, trailerCheck}
 
 -- ---- reading
@@ -62,19 +62,3 @@ writtenOf x note room = written (writeCheck x note room) (length (fileOf x note)
 
 unfoldable pub bufferOf : Show → List ℕ → List ℕ → List ℕ
 bufferOf x note b = writtenOver (writeCheck x note (length b)) (fileOf x note) b
-
--- ---- there and back
-
--- Reading what was written gives the same note and the same show, unused places zero.
-unfoldable pub rereadOf : Show → List ℕ → ℕ → Reading
-rereadOf x note room = reading (writeCheck x note room) (zeroed x) (length note)
-
--- Writing what was read gives the same bytes.
-unfoldable pub copyCheck : List ℕ → ℕ → Check
-copyCheck f room = first (readOf f .check) (roomCheck (length f) room)
-
-unfoldable pub copiedOf : List ℕ → ℕ → Written
-copiedOf f room = written (copyCheck f room) (length f)
-
-unfoldable pub copyOf : List ℕ → List ℕ → List ℕ
-copyOf f b = writtenOver (copyCheck f (length b)) f b

@@ -1,4 +1,4 @@
-// The show file: reading it, writing it, and both one after the other. docs/RULES.md, section 6.
+// The show file: reading it, and writing it. docs/RULES.md, section 6.
 mod bytes;
 mod rows;
 mod trailer;
@@ -12,7 +12,7 @@ ghost use Rattle.drive.specs.Checks.{limitsCheck};
 ghost use Rattle.drive.specs.Limits.{Between, Tells, noShow};
 ghost use Rattle.showfile.specs.File.{showFrom, fileOf};
 ghost use Rattle.showfile.specs.Checks.{noteLength, trailerCheck};
-ghost use Rattle.showfile.specs.Answers.{reading, readOf, noteOf, shownAt, written, writeCheck, writtenOf, bufferOf, rereadOf, copiedOf, copyOf};
+ghost use Rattle.showfile.specs.Answers.{reading, readOf, noteOf, shownAt, written, writeCheck, writtenOf, bufferOf};
 use crate::bytes::put_bytes;
 use crate::rows::get_layouts;
 use crate::rows::get_sessions;
@@ -205,32 +205,4 @@ pub fn write(show: Show, note: &[u8], buffer: &mut [u8]) -> Written
         check: Check::Within,
         len,
     }
-}
-
-// Writes a show and reads it again: what a server will find in the file.
-pub fn reread(show: Show, note: &[u8], buffer: &mut [u8]) -> Reading
-    ensures { λ r. ⌜ r ≡ rereadOf show (now (note .entry)) (length (now (buffer .entry))) ⌝ }
-    ensures { λ _. ⌜ now (buffer .exit) ≡ bufferOf show (now (note .entry)) (now (buffer .entry)) ⌝ }
-{
-    let wrote = write(show, note, buffer);
-    let check = wrote.check;
-    if let Check::Refused(why) = check {
-        return refused(why);
-    }
-    let n = wrote.len;
-    read(&buffer[..n])
-}
-
-// Reads a file and writes what it read: the same bytes; or 1 to 7, then 16.
-pub fn copy(file: &[u8], buffer: &mut [u8]) -> Written
-    ensures { λ r. ⌜ r ≡ copiedOf (now (file .entry)) (length (now (buffer .entry))) ⌝ }
-    ensures { λ _. ⌜ now (buffer .exit) ≡ copyOf (now (file .entry)) (now (buffer .entry)) ⌝ }
-{
-    let got = read(file);
-    let check = got.check;
-    if let Check::Refused(why) = check {
-        return unwritten(why);
-    }
-    let n = got.note;
-    write(got.show, &file[..n], buffer)
 }

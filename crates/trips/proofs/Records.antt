@@ -9,9 +9,9 @@ use Rattle.drive.specs.declared.Layout.{Layout}
 use Rattle.drive.specs.declared.Session.{Session}
 use Rattle.drive.specs.declared.Show.{Show}
 use Rattle.drive.specs.Limits.{LayoutWithin, SessionWithin, DriveWithin, CountsWithin}
 use Rattle.showfile.specs.Bytes.{Bytes, wordOf, halfOf, wordBytes, halfBytes, fourBytes}
 use Rattle.showfile.specs.File.{layoutOf, layoutBytes, sessionOf, sessionBytes, trailerOf, trailerBytes, trailerFor}
-use Rattle.showfile.proofs.Words.{bytes-drop, word-there, half-there, word-back, half-back}
+use Rattle.trips.proofs.Words.{bytes-drop, word-there, half-there, word-back, half-back}
 
 -- ---- written, then read
 

@@ -13,17 +13,14 @@ use Rattle.drive.specs.declared.refusal.Refusal.{Refusal}
 use Rattle.drive.specs.declared.refusal.Refusal.the-variants.{FileLength}
 use Rattle.drive.specs.Limits.{Between, ShowWithin, noShow}
 use Rattle.drive.specs.Decisions.{between?}
-use Rattle.drive.specs.Checks.{first, limitsCheck}
-use Rattle.drive.proofs.Checks.{unless-kept, unless-within, first-left, first-right}
-use Rattle.showfile.specs.declared.trailer.Trailer.{Trailer}
+use Rattle.drive.proofs.Checks.{unless-kept}
 use Rattle.showfile.specs.declared.Reading.{Reading}
 use Rattle.showfile.specs.declared.Written.{Written}
 use Rattle.showfile.specs.Bytes.{Bytes}
-use Rattle.showfile.specs.File.{trailerOf, trailerBytes, showFrom, trailerFor, fileOf, zeroed}
-use Rattle.showfile.specs.Checks.{noteLength, lengthCheck, roomCheck, trailerCheck}
+use Rattle.showfile.specs.File.{trailerBytes, showFrom, trailerFor, fileOf, zeroed}
+use Rattle.showfile.specs.Checks.{noteLength, lengthCheck, roomCheck}
 use Rattle.showfile.specs.Answers.{
   reading,
-  shownAt,
   readCheck,
   readAt,
   readOf,
@@ -32,57 +29,16 @@ use Rattle.showfile.specs.Answers.{
   writeCheck,
   writtenOf,
   bufferOf,
-  rereadOf,
-  copyCheck,
-  copiedOf,
-  copyOf,
 }
-use Rattle.showfile.proofs.Passed.{Framed, check-framed, framed-check, limits-within, within-limits, check-writable, room-left}
+use Rattle.trips.specs.Answers.{rereadOf, copyCheck, copiedOf, copyOf}
+use Rattle.showfile.proofs.Passed.{Framed, framed-check, within-limits, check-writable, room-left}
+use Rattle.showfile.proofs.Readable.{end, last, check-readable, read-within}
 use Rattle.showfile.proofs.Sizes.{file-length, note-inside}
-use Rattle.showfile.proofs.Words.{bytes-drop}
-use Rattle.showfile.proofs.Records.{trailer-back}
-use Rattle.showfile.proofs.Parts.{trailer-again, rows-again, trailer-read, show-read, zeroed-within}
+use Rattle.trips.proofs.Words.{bytes-drop}
+use Rattle.trips.proofs.Records.{trailer-back}
+use Rattle.trips.proofs.Parts.{trailer-again, rows-again, trailer-read, show-read, zeroed-within}
 
 -- ---- read, then written
-
--- where a file's trailer stands, and the trailer
-abbrev end : List ℕ → ℕ
-end f = length f - 20
-
-abbrev last : List ℕ → Trailer
-last f = trailerOf (drop (end f) f)
-
--- a file past 1 to 7, and what is read from it
-record Readable (f : List ℕ) : Type 0 where
-  pub size : Between 20 (length f) 1428
-  pub framed : Framed (end f) (last f)
-  pub within : ShowWithin (shownAt f (end f) (last f))
-  pub is : readOf f ≡ reading Within (shownAt f (end f) (last f)) (noteLength (end f) (last f))
-
-reading-within : (c : Check) (x : Show) (n : ℕ) → reading c x n .check ≡ Within → c ≡ Within
-reading-within Within x n e = refl
-reading-within (Refused w) x n e = e
-
-check-readable : (f : List ℕ) → readOf f .check ≡ Within → Readable f
-unfolding readOf readAt readCheck showFrom
-check-readable f e =
-    let a = lengthCheck (length f) in
-    let b = trailerCheck (end f) (last f) in
-    let x = shownAt f (end f) (last f) in
-    let n = noteLength (end f) (last f) in
-    let all : first a (first b (limitsCheck x)) ≡ Within = reading-within (first a (first b (limitsCheck x))) x n e in
-    let rest = first-right a (first b (limitsCheck x)) all in
-    let framed = check-framed (end f) (last f) (first-left b (limitsCheck x) rest) in
-    record {
-      size = unless-within (between? 20 (length f) 1428) FileLength (first-left a (first b (limitsCheck x)) all);
-      framed = framed;
-      within = limits-within x (framed .counts) (first-right b (limitsCheck x) rest);
-      is = ap (λ (c : Check). reading c x n) all;
-    }
-
--- What is read is within every limit.
-pub read-within : (f : List ℕ) → readOf f .check ≡ Within → ShowWithin (readOf f .show)
-read-within f e = let g = check-readable f e in rw (g .is) (g .within)
 
 -- Writing what was read gives the same bytes.
 pub file-written : (f : List ℕ) → Bytes f → readOf f .check ≡ Within → fileOf (readOf f .show) (noteOf f) ≡ f

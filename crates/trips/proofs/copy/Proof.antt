@@ -1,9 +1,9 @@
 -- `copy` writes what it read. Assumes nothing.
 use Rattle.showfile.proofs.Sizes.{note-part}
-use Rattle.showfile.proofs.Trip.{copy-refused, copy-answers}
+use Rattle.trips.proofs.Trip.{copy-refused, copy-answers}
 use borrow.Author.Needs.{needs}
-use Rattle.showfile.proofs.copy.Statement.{statement}
-use Rattle.showfile.proofs.copy.Tie as tie
+use Rattle.trips.proofs.copy.Statement.{statement}
+use Rattle.trips.proofs.copy.Tie as tie
 
 read-requires : tie.Need-read-requires
 read-requires c κs = search needs

@@ -23,11 +23,11 @@ use Rattle.showfile.specs.File.{
   fileOf,
   zeroed,
 }
 use Rattle.showfile.specs.Checks.{Distanced}
 use Rattle.showfile.proofs.RowLaws.{row-length}
 use Rattle.showfile.proofs.Sizes.{layout-length, session-length, layouts-length, sessions-length}
-use Rattle.showfile.proofs.Words.{bytes-drop, row-there, row-back}
-use Rattle.showfile.proofs.Records.{layout-there, session-there, trailer-there, layout-back, session-back}
+use Rattle.trips.proofs.Words.{bytes-drop, row-there, row-back}
+use Rattle.trips.proofs.Records.{layout-there, session-there, trailer-there, layout-back, session-back}
 
 -- ---- read, then written
 
