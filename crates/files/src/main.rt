@@ -228,7 +228,7 @@ fn written(line: &[u8], note: &[u8], buffer: &mut [u8]) -> bool {
 
 fn write(given: Show, note: &[u8], buffer: &mut [u8]) {
     fill(buffer);
-    let wrote = showfile::write(given, note, buffer);
+    let wrote = filing::write(given, note, buffer);
     let check = wrote.check;
     if let Check::Refused(why) = check {
         unwritten(why, given, note, buffer);

@@ -4,5 +4,4 @@ pub mod Passed
 pub mod Stops
 pub mod Got
 pub mod Sizes
-pub mod Filed
 pub mod Readable

@@ -25,7 +25,7 @@ use Rattle.showfile.specs.File.{
 }
 use Rattle.showfile.specs.Checks.{Distanced}
 use Rattle.showfile.proofs.RowLaws.{row-length}
-use Rattle.showfile.proofs.Sizes.{layout-length, session-length, layouts-length, sessions-length}
+use Rattle.filing.proofs.Sizes.{layout-length, session-length, layouts-length, sessions-length}
 use Rattle.trips.proofs.Words.{bytes-drop, row-there, row-back}
 use Rattle.trips.proofs.Records.{layout-there, session-there, trailer-there, layout-back, session-back}
 

@@ -11,14 +11,14 @@ use Rattle.drive.specs.declared.refusal.Check.{Check}
 use Rattle.drive.specs.declared.refusal.Check.the-variants.{Within, Refused}
 use Rattle.drive.specs.declared.refusal.Refusal.{Refusal}
 use Rattle.drive.specs.declared.refusal.Refusal.the-variants.{FileLength}
-use Rattle.drive.specs.Limits.{Between, ShowWithin, noShow}
+use Rattle.drive.specs.Limits.{ShowWithin, noShow}
 use Rattle.drive.specs.Decisions.{between?}
 use Rattle.drive.proofs.Checks.{unless-kept}
 use Rattle.showfile.specs.declared.Reading.{Reading}
 use Rattle.showfile.specs.declared.Written.{Written}
 use Rattle.showfile.specs.Bytes.{Bytes}
 use Rattle.showfile.specs.File.{trailerBytes, showFrom, trailerFor, fileOf, zeroed}
-use Rattle.showfile.specs.Checks.{noteLength, lengthCheck, roomCheck}
+use Rattle.showfile.specs.Checks.{noteLength, lengthCheck}
 use Rattle.showfile.specs.Answers.{
   reading,
   readCheck,
@@ -26,14 +26,14 @@ use Rattle.showfile.specs.Answers.{
   readOf,
   noteOf,
   written,
-  writeCheck,
-  writtenOf,
-  bufferOf,
 }
+use Rattle.filing.specs.Answers.{roomCheck, writeCheck, writtenOf, bufferOf}
 use Rattle.trips.specs.Answers.{rereadOf, copyCheck, copiedOf, copyOf}
-use Rattle.showfile.proofs.Passed.{Framed, framed-check, within-limits, check-writable, room-left}
+use Rattle.showfile.proofs.Passed.{Framed, framed-check, within-limits}
+use Rattle.filing.proofs.Passed.{check-writable, room-left}
 use Rattle.showfile.proofs.Readable.{end, last, check-readable, read-within}
-use Rattle.showfile.proofs.Sizes.{file-length, note-inside}
+use Rattle.showfile.proofs.Sizes.{note-inside}
+use Rattle.filing.proofs.Sizes.{file-length}
 use Rattle.trips.proofs.Words.{bytes-drop}
 use Rattle.trips.proofs.Records.{trailer-back}
 use Rattle.trips.proofs.Parts.{trailer-again, rows-again, trailer-read, show-read, zeroed-within}

@@ -8,8 +8,8 @@ use Rattle.drive.specs.Checks.{first}
 use Rattle.showfile.specs.declared.Reading.{Reading}
 use Rattle.showfile.specs.declared.Written.{Written}
 use Rattle.showfile.specs.File.{zeroed}
-use Rattle.showfile.specs.Checks.{roomCheck}
-use Rattle.showfile.specs.Answers.{reading, readOf, noteOf, written, writtenOver, writeCheck}
+use Rattle.showfile.specs.Answers.{reading, readOf, written, writtenOver}
+use Rattle.filing.specs.Answers.{roomCheck, writeCheck}
 
 -- Reading what was written gives the same note and the same show, unused places zero.
 unfoldable pub rereadOf : Show → List ℕ → ℕ → Reading

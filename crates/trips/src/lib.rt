@@ -3,15 +3,16 @@ ghost use mathlib.Core.Path.{_≡_};
 ghost use lib.ListN.{length};
 ghost use Rattle.drive.specs.declared.refusal.Check.the-variants.{Refused};
 ghost use Rattle.drive.specs.Limits.{noShow};
-ghost use Rattle.showfile.specs.Answers.{reading, written, bufferOf};
+ghost use Rattle.showfile.specs.Answers.{reading, written};
+ghost use Rattle.filing.specs.Answers.{bufferOf};
 ghost use Rattle.trips.specs.Answers.{rereadOf, copiedOf, copyOf};
 use drive::Show;
 use drive::refusal::Check;
 use drive::refusal::Refusal;
+use filing::write;
 use showfile::Reading;
 use showfile::Written;
 use showfile::read;
-use showfile::write;
 
 fn refused(why: Refusal) -> Reading
     ensures { λ r. ⌜ r ≡ reading (Refused why) noShow 0 ⌝ }
