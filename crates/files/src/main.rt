@@ -143,7 +143,7 @@ fn unread(why: Refusal, file: &[u8], buffer: &mut [u8]) {
     refusal(why);
     no_note(showfile::note(file));
     fill(buffer);
-    let wrote = showfile::copy(file, buffer);
+    let wrote = trips::copy(file, buffer);
     let second = wrote.check;
     unlike(why, second);
     unless_filled(buffer);
@@ -160,7 +160,7 @@ fn no_note(note: &[u8]) {
 // The file written again, into a buffer of its length.
 fn copy(file: &[u8], buffer: &mut [u8]) {
     fill(buffer);
-    let wrote = showfile::copy(file, buffer);
+    let wrote = trips::copy(file, buffer);
     let check = wrote.check;
     say(b" copy");
     if let Check::Refused(why) = check {
@@ -183,7 +183,7 @@ fn short(file: &[u8], buffer: &mut [u8]) {
     }
     fill(buffer);
     let n = buffer.len() - 1;
-    let wrote = showfile::copy(file, &mut buffer[0..n]);
+    let wrote = trips::copy(file, &mut buffer[0..n]);
     let check = wrote.check;
     say(b" short");
     let Check::Refused(why) = check else {
@@ -228,7 +228,7 @@ fn written(line: &[u8], note: &[u8], buffer: &mut [u8]) -> bool {
 
 fn write(given: Show, note: &[u8], buffer: &mut [u8]) {
     fill(buffer);
-    let wrote = showfile::write(given, note, buffer);
+    let wrote = filing::write(given, note, buffer);
     let check = wrote.check;
     if let Check::Refused(why) = check {
         unwritten(why, given, note, buffer);
@@ -243,7 +243,7 @@ fn write(given: Show, note: &[u8], buffer: &mut [u8]) {
 
 // A refused show is not written on the way to being read again either; the buffer is that after both calls.
 fn unwritten(why: Refusal, given: Show, note: &[u8], buffer: &mut [u8]) {
-    let got = showfile::reread(given, note, buffer);
+    let got = trips::reread(given, note, buffer);
     let second = got.check;
     refusal(why);
     say(b" ");
@@ -254,7 +254,7 @@ fn unwritten(why: Refusal, given: Show, note: &[u8], buffer: &mut [u8]) {
 // The show written into a fresh buffer and read again.
 fn reread(given: Show, note: &[u8], buffer: &mut [u8]) {
     fill(buffer);
-    let got = showfile::reread(given, note, buffer);
+    let got = trips::reread(given, note, buffer);
     let check = got.check;
     say(b" reread");
     if let Check::Refused(why) = check {

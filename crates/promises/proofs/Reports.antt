@@ -20,7 +20,7 @@ use Rattle.showfile.specs.Bytes.{wordBytes, halfBytes, fourBytes, rowBytes}
 use Rattle.showfile.specs.File.{layoutBytes, sessionBytes, trailerBytes, trailerFor, fileOf, zeroed}
 use Rattle.showfile.specs.declared.Reading.{Reading}
 use Rattle.showfile.specs.Answers.{reading, readOf}
-use Rattle.showfile.proofs.Trip.{file-read}
+use Rattle.trips.proofs.Trip.{file-read}
 use Rattle.theory.specs.Sum.{sumTo}
 use Rattle.theory.specs.Shows.{loadOf}
 use Rattle.verdict.specs.declared.Decision.{Decision}

@@ -16,7 +16,7 @@ use Rattle.drive.specs.Worst.{costOf}
 use Rattle.drive.specs.Refusals.{numberOf, placeOf}
 use Rattle.drive.proofs.Bound.{worst-capped}
 use Rattle.drive.proofs.Costs.{cost-limited}
-use Rattle.showfile.proofs.Trip.{read-within}
+use Rattle.showfile.proofs.Readable.{read-within}
 use Rattle.theory.specs.Counts.{Load, Good, roundTime, needed}
 use Rattle.theory.specs.Shows.{loadOf}
 use Rattle.theory.proofs.Sum.{sum-capped}

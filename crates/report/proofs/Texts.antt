@@ -15,7 +15,7 @@ use Rattle.drive.specs.Refusals.{toldOf}
 use Rattle.drive.proofs.Checks.{within-refused}
 use Rattle.showfile.specs.declared.Reading.{Reading}
 use Rattle.showfile.specs.Answers.{readOf}
-use Rattle.showfile.proofs.Trip.{read-within}
+use Rattle.showfile.proofs.Readable.{read-within}
 use Rattle.theory.specs.Counts.{Load, roundTime, needed}
 use Rattle.theory.specs.Shows.{loadOf}
 use Rattle.theory.proofs.Rounds.{round-same, smallest-once, smallest-same}

@@ -4,8 +4,4 @@ pub mod Passed
 pub mod Stops
 pub mod Got
 pub mod Sizes
-pub mod Filed
-pub mod Words
-pub mod Records
-pub mod Parts
-pub mod Trip
+pub mod Readable

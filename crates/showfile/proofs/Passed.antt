@@ -1,21 +1,17 @@
--- What a test that is passed says of a file's trailer, and of a show that is to be written. Assumes nothing.
+-- What a test that is passed says of a file's trailer, and of its show. Assumes nothing.
 use Prim.Native.Nat.{ℕ, _≤_}
 use mathlib.Core.Path.{_≡_, sym, _∙_}
-use mathlib.Core.List.{List}
 use native.Mathlib.Decide.{decLe}
-use lib.ListN.{length}
 use Rattle.drive.specs.declared.Show.{Show}
 use Rattle.drive.specs.declared.refusal.Check.the-variants.{Within}
-use Rattle.drive.specs.declared.refusal.Refusal.the-variants.{Counts, Distances, NoteLength, BufferShort}
+use Rattle.drive.specs.declared.refusal.Refusal.the-variants.{Counts, Distances, NoteLength}
 use Rattle.drive.specs.Limits.{CountsWithin, ShowWithin}
 use Rattle.drive.specs.Decisions.{counts?}
 use Rattle.drive.specs.Checks.{first, countsCheck, limitsCheck}
 use Rattle.drive.proofs.Checks.{unless-kept, unless-within, first-within, first-left, first-right}
 use Rattle.drive.proofs.Shows.{check-within, within-check, limits-left}
 use Rattle.showfile.specs.declared.trailer.Trailer.{Trailer}
-use Rattle.showfile.specs.File.{fileOf}
-use Rattle.showfile.specs.Checks.{Distanced, distanced?, noteLength, distancesCheck, noteCheck, roomCheck, trailerCheck}
-use Rattle.showfile.specs.Answers.{writeCheck}
+use Rattle.showfile.specs.Checks.{Distanced, distanced?, noteLength, distancesCheck, noteCheck, trailerCheck}
 
 -- the trailer t at `at`, past 2, 3 and 4
 pub record Framed (at : ℕ) (t : Trailer) : Type 0 where
@@ -49,35 +45,3 @@ limits-within x c e = check-within x (limits-left x c ∙ e)
 
 pub within-limits : (x : Show) → ShowWithin x → limitsCheck x ≡ Within
 within-limits x w = sym (limits-left x (w .counts)) ∙ within-check x w
-
--- a show and a note past 2, 4, 5, 6, 7 and 16
-pub record Writable (x : Show) (note : List ℕ) (room : ℕ) : Type 0 where
-  pub within : ShowWithin x
-  pub short : length note ≤ 1024
-  pub fits : length (fileOf x note) ≤ room
-
-pub check-writable : (x : Show) (note : List ℕ) (room : ℕ) → writeCheck x note room ≡ Within → Writable x note room
-unfolding writeCheck
-check-writable x note room e =
-    let c = countsCheck (x .laid) (x .playing) in
-    let n = noteCheck (length note) in
-    let m = limitsCheck x in
-    let r = roomCheck (length (fileOf x note)) room in
-    let past-counts = first-right c (first n (first m r)) e in
-    let past-note = first-right n (first m r) past-counts in
-    let counts = unless-within (counts? (x .laid) (x .playing)) Counts (first-left c (first n (first m r)) e) in
-    record {
-      within = limits-within x counts (first-left m r past-note);
-      short = unless-within (decLe (length note) 1024) NoteLength (first-left n (first m r) past-counts);
-      fits = unless-within (decLe (length (fileOf x note)) room) BufferShort (first-right m r past-note);
-    }
-
--- a show and a note past all but 16
-pub room-left :
-    (x : Show) (note : List ℕ) (room : ℕ) → ShowWithin x → length note ≤ 1024 →
-    writeCheck x note room ≡ roomCheck (length (fileOf x note)) room
-unfolding writeCheck
-room-left x note room w h =
-    first-within _ _ (unless-kept (counts? (x .laid) (x .playing)) Counts (w .counts))
-    ∙ first-within _ _ (unless-kept (decLe (length note) 1024) NoteLength h)
-    ∙ first-within _ _ (within-limits x w)

@@ -1,4 +1,4 @@
--- What reading and writing answer, and what a writer's buffer then holds: docs/RULES.md, section 6.
+-- What reading answers; the form of what a writer answers, and of what its buffer then holds: docs/RULES.md, section 6.
 use Prim.Native.Nat.{ℕ, _-_}
 use mathlib.Core.List.{List, _++_}
 use lib.ListN.{length, take, drop}
@@ -6,12 +6,12 @@ use Rattle.drive.specs.declared.Show.{Show}
 use Rattle.drive.specs.declared.refusal.Check.{Check}
 use Rattle.drive.specs.declared.refusal.Check.the-variants.{Within, Refused}
 use Rattle.drive.specs.Limits.{noShow}
-use Rattle.drive.specs.Checks.{first, countsCheck, limitsCheck}
+use Rattle.drive.specs.Checks.{first, limitsCheck}
 use Rattle.showfile.specs.declared.trailer.Trailer.{Trailer}
 use Rattle.showfile.specs.declared.Reading.{Reading}
 use Rattle.showfile.specs.declared.Written.{Written}
-use Rattle.showfile.specs.File.{trailerOf, showFrom, fileOf, zeroed}
-use Rattle.showfile.specs.Checks.{noteLength, lengthCheck, noteCheck, roomCheck, trailerCheck}
+use Rattle.showfile.specs.File.{trailerOf, showFrom}
+use Rattle.showfile.specs.Checks.{noteLength, lengthCheck, trailerCheck}
 
 -- ---- reading
 
@@ -50,31 +50,3 @@ written (Refused w) n = record { check = Refused w; len = 0 }
 abbrev pub writtenOver : Check → List ℕ → List ℕ → List ℕ
 writtenOver Within file b = file ++ drop (length file) b
 writtenOver (Refused w) file b = b
-
--- 2, 4, 5, 6, 7, 16
-unfoldable pub writeCheck : Show → List ℕ → ℕ → Check
-writeCheck x note room =
-    first (countsCheck (x .laid) (x .playing))
-    (first (noteCheck (length note)) (first (limitsCheck x) (roomCheck (length (fileOf x note)) room)))
-
-unfoldable pub writtenOf : Show → List ℕ → ℕ → Written
-writtenOf x note room = written (writeCheck x note room) (length (fileOf x note))
-
-unfoldable pub bufferOf : Show → List ℕ → List ℕ → List ℕ
-bufferOf x note b = writtenOver (writeCheck x note (length b)) (fileOf x note) b
-
--- ---- there and back
-
--- Reading what was written gives the same note and the same show, unused places zero.
-unfoldable pub rereadOf : Show → List ℕ → ℕ → Reading
-rereadOf x note room = reading (writeCheck x note room) (zeroed x) (length note)
-
--- Writing what was read gives the same bytes.
-unfoldable pub copyCheck : List ℕ → ℕ → Check
-copyCheck f room = first (readOf f .check) (roomCheck (length f) room)
-
-unfoldable pub copiedOf : List ℕ → ℕ → Written
-copiedOf f room = written (copyCheck f room) (length f)
-
-unfoldable pub copyOf : List ℕ → List ℕ → List ℕ
-copyOf f b = writtenOver (copyCheck f (length b)) f b

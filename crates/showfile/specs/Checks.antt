@@ -1,9 +1,9 @@
--- The tests of a file, 1 to 4, and of a writer's buffer, 16: docs/RULES.md, sections 4 and 6.
+-- The tests of a file, 1 to 4: docs/RULES.md, sections 4 and 6.
 use Prim.Native.Nat.{ℕ, _+_, _*_, _-_, _≤_}
 use mathlib.Core.Path.{_≡_}
 use mathlib.Core.Logic.{Dec·and}
 use native.Mathlib.Decide.{decLe, ℕ-discrete}
-use Rattle.drive.specs.declared.refusal.Refusal.the-variants.{FileLength, Distances, NoteLength, BufferShort}
+use Rattle.drive.specs.declared.refusal.Refusal.the-variants.{FileLength, Distances, NoteLength}
 use Rattle.drive.specs.declared.refusal.Check.{Check}
 use Rattle.drive.specs.Decisions.{decided, between?}
 use Rattle.drive.specs.Checks.{unless, first, countsCheck}
@@ -36,10 +36,6 @@ distancesCheck at t = unless (distanced? at t) Distances
 -- 4: note over 1,024 bytes
 abbrev pub noteCheck : ℕ → Check
 noteCheck n = unless (decLe n 1024) NoteLength
-
--- 16: writer's buffer too short
-abbrev pub roomCheck : ℕ → ℕ → Check
-roomCheck size room = unless (decLe size room) BufferShort
 
 -- 2, 3, 4, of the trailer t that stands at `at`
 unfoldable pub trailerCheck : ℕ → Trailer → Check

@@ -1,26 +1,21 @@
-// The show file: reading it, writing it, and both one after the other. docs/RULES.md, section 6.
+// The show file, and reading it. docs/RULES.md, section 6.
 mod bytes;
 mod rows;
-mod trailer;
+pub mod trailer;
 
 ghost use mathlib.Core.Path.{_≡_};
-ghost use mathlib.Core.List.{_++_};
 ghost use Prim.Native.Nat.{_+_, _*_, _≤_};
 ghost use lib.ListN.{length, drop};
 ghost use Rattle.drive.specs.declared.refusal.Check.the-variants.{Within, Refused};
 ghost use Rattle.drive.specs.Checks.{limitsCheck};
 ghost use Rattle.drive.specs.Limits.{Between, Tells, noShow};
-ghost use Rattle.showfile.specs.File.{showFrom, fileOf};
+ghost use Rattle.showfile.specs.File.{showFrom};
 ghost use Rattle.showfile.specs.Checks.{noteLength, trailerCheck};
-ghost use Rattle.showfile.specs.Answers.{reading, readOf, noteOf, shownAt, written, writeCheck, writtenOf, bufferOf, rereadOf, copiedOf, copyOf};
-use crate::bytes::put_bytes;
+ghost use Rattle.showfile.specs.Answers.{reading, readOf, noteOf, shownAt};
 use crate::rows::get_layouts;
 use crate::rows::get_sessions;
-use crate::rows::put_layouts;
-use crate::rows::put_sessions;
 use crate::trailer::Trailer;
 use crate::trailer::get_trailer;
-use crate::trailer::put_trailer;
 use drive::Show;
 use drive::refusal::Check;
 use drive::refusal::Refusal;
@@ -32,7 +27,7 @@ pub struct Reading {
     pub note: usize,
 }
 
-// What writing answers: how many bytes it wrote. Refused, none.
+// What a writer answers: how many bytes it wrote. Refused, none.
 pub struct Written {
     pub check: Check,
     pub len: usize,
@@ -142,95 +137,4 @@ pub fn note(file: &[u8]) -> &[u8]
     let got = read(file);
     let end = got.note;
     &file[..end]
-}
-
-fn unwritten(why: Refusal) -> Written
-    ensures { λ r. ⌜ r ≡ written (Refused why) 0 ⌝ }
-{
-    Written {
-        check: Check::Refused(why),
-        len: 0,
-    }
-}
-
-// 2, 4, 5, 6, 7, 16, of a buffer of `room` bytes.
-fn check_write(show: Show, note: &[u8], room: usize) -> Check
-    ensures { λ r. ⌜ r ≡ writeCheck show (now (note .entry)) room ⌝ }
-{
-    if !Show::counts_within(show.laid, show.playing) {
-        return Check::Refused(Refusal::Counts);
-    }
-    if !Reading::note_within(note.len()) {
-        return Check::Refused(Refusal::NoteLength);
-    }
-    let check = show.check();
-    if let Check::Refused(why) = check {
-        return Check::Refused(why);
-    }
-    if room < note.len() + 16 * (show.laid + show.playing) + Trailer::LENGTH {
-        return Check::Refused(Refusal::BufferShort);
-    }
-    Check::Within
-}
-
-// Writes a file that has been found good and to fit, and answers its length.
-fn put_file(show: Show, note: &[u8], buffer: &mut [u8]) -> usize
-    requires { ⌜ writeCheck show (now note) (length (now buffer)) ≡ Within ⌝ }
-    ensures { λ r. ⌜ r ≡ length (fileOf show (now (note .entry))) ⌝ }
-    ensures { λ _. ⌜ now (buffer .exit) ≡ fileOf show (now (note .entry)) ++ drop (length (fileOf show (now (note .entry)))) (now (buffer .entry)) ⌝ }
-{
-    let first = note.len();
-    let second = first + show.laid * 16;
-    let third = second + show.playing * 16;
-    let layouts = show.layouts;
-    let sessions = show.sessions;
-    put_bytes(buffer, note);
-    put_layouts(buffer, first, layouts, show.laid);
-    put_sessions(buffer, second, sessions, show.playing);
-    put_trailer(buffer, third, Trailer::of(show));
-    third + Trailer::LENGTH
-}
-
-// Writes a show and its note from the buffer's first byte; or 2, 4, 5, 6, 7, 16, in this order, and then the buffer is as it was.
-pub fn write(show: Show, note: &[u8], buffer: &mut [u8]) -> Written
-    ensures { λ r. ⌜ r ≡ writtenOf show (now (note .entry)) (length (now (buffer .entry))) ⌝ }
-    ensures { λ _. ⌜ now (buffer .exit) ≡ bufferOf show (now (note .entry)) (now (buffer .entry)) ⌝ }
-{
-    let check = check_write(show, note, buffer.len());
-    if let Check::Refused(why) = check {
-        return unwritten(why);
-    }
-    let len = put_file(show, note, buffer);
-    Written {
-        check: Check::Within,
-        len,
-    }
-}
-
-// Writes a show and reads it again: what a server will find in the file.
-pub fn reread(show: Show, note: &[u8], buffer: &mut [u8]) -> Reading
-    ensures { λ r. ⌜ r ≡ rereadOf show (now (note .entry)) (length (now (buffer .entry))) ⌝ }
-    ensures { λ _. ⌜ now (buffer .exit) ≡ bufferOf show (now (note .entry)) (now (buffer .entry)) ⌝ }
-{
-    let wrote = write(show, note, buffer);
-    let check = wrote.check;
-    if let Check::Refused(why) = check {
-        return refused(why);
-    }
-    let n = wrote.len;
-    read(&buffer[..n])
-}
-
-// Reads a file and writes what it read: the same bytes; or 1 to 7, then 16.
-pub fn copy(file: &[u8], buffer: &mut [u8]) -> Written
-    ensures { λ r. ⌜ r ≡ copiedOf (now (file .entry)) (length (now (buffer .entry))) ⌝ }
-    ensures { λ _. ⌜ now (buffer .exit) ≡ copyOf (now (file .entry)) (now (buffer .entry)) ⌝ }
-{
-    let got = read(file);
-    let check = got.check;
-    if let Check::Refused(why) = check {
-        return unwritten(why);
-    }
-    let n = got.note;
-    write(got.show, &file[..n], buffer)
 }

@@ -3,14 +3,11 @@ ghost use mathlib.Core.Path.{_≡_};
 ghost use Prim.Native.Nat.{_+_, _≤_};
 ghost use lib.ListN.{length, drop};
 ghost use Rattle.drive.specs.Limits.{CountsWithin, Tells};
-ghost use Rattle.showfile.specs.Bytes.{over};
-ghost use Rattle.showfile.specs.File.{trailerOf, trailerBytes, trailerFor};
+ghost use Rattle.showfile.specs.File.{trailerOf};
 ghost use Rattle.showfile.specs.Checks.{Distanced, trailerCheck};
 use crate::Reading;
 use crate::bytes::get_half;
 use crate::bytes::get_word;
-use crate::bytes::put_half;
-use crate::bytes::put_word;
 use drive::Drive;
 use drive::Show;
 use drive::refusal::Check;
@@ -27,20 +24,6 @@ pub struct Trailer {
 
 impl Trailer {
     pub const LENGTH: usize = 20;
-
-    pub(crate) fn of(show: Show) -> Trailer
-        requires { ⌜ CountsWithin (show .laid) (show .playing) ⌝ }
-        ensures { λ r. ⌜ r ≡ trailerFor show ⌝ }
-    {
-        let drive = show.drive;
-        Trailer {
-            drive,
-            laid: show.laid,
-            playing: show.playing,
-            far: (16 * (show.laid + show.playing)) as u32,
-            near: (16 * show.playing) as u32,
-        }
-    }
 
     fn distanced(self, at: usize) -> bool
         requires { ⌜ CountsWithin (self .laid) (self .playing) ⌝ }
@@ -90,17 +73,4 @@ pub(crate) fn get_trailer(s: &[u8], at: usize) -> Trailer
         far: get_word(s, at + 12),
         near: get_word(s, at + 16),
     }
-}
-
-pub(crate) fn put_trailer(b: &mut [u8], at: usize, t: Trailer)
-    requires { ⌜ at + 20 ≤ length (now b) ⌝ }
-    ensures { λ _. ⌜ now (b .exit) ≡ over (now (b .entry)) at (trailerBytes t) ⌝ }
-{
-    let drive = t.drive;
-    put_word(b, at, drive.block);
-    put_word(b, at + 4, drive.cylinder);
-    put_half(b, at + 8, t.laid);
-    put_half(b, at + 10, t.playing);
-    put_word(b, at + 12, t.far);
-    put_word(b, at + 16, t.near);
 }

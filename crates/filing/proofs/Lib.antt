@@ -1,0 +1,6 @@
+pub mod ByteLaws
+pub mod RowLaws
+pub mod Sizes
+pub mod Passed
+pub mod Stops
+pub mod Filed
