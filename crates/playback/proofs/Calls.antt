@@ -21,25 +21,12 @@ use Rattle.run.proofs.Tests.{damaged-first, sound-then}
 use Rattle.player.specs.declared.Drawn.{Drawn}
 use Rattle.player.specs.Answers.{drawnOf}
 use Rattle.player.proofs.Takes.{take-sound}
+use Rattle.run.specs.Answers.{moved}
+use Rattle.run.proofs.Answered.{granted, refused, moved-refused, moved-granted}
 use Rattle.player.proofs.Laws.{take-answers, granted-draws}
-use Rattle.playback.specs.declared.Moved.{Moved}
-use Rattle.playback.specs.Answers.{moved, spanCheck, passCheck, passOf, takeCheck, takeOf}
+use Rattle.run.specs.declared.Moved.{Moved}
+use Rattle.playback.specs.Answers.{spanCheck, passCheck, passOf, takeCheck, takeOf}
 use Rattle.playback.specs.Answers.{busyCheck, finishCheck, landedFor, finishOf}
-
--- ---- by the check
-
-abbrev pub granted : Run → Moved
-granted q = record { check = Within; run = q }
-
-abbrev pub refused : Run → Refusal → Moved
-refused r w = record { check = Refused w; run = r }
-
-module _ (k : Check) (r next : Run) where
-  pub moved-refused : (w : Refusal) → k ≡ Refused w → refused r w ≡ moved k r next
-  moved-refused w e = ap (λ (x : Check). moved x r next) (sym e)
-
-  pub moved-granted : (q : Run) → k ≡ Within → q ≡ next → granted q ≡ moved k r next
-  moved-granted q e f = ap granted f ∙ ap (λ (x : Check). moved x r next) (sym e)
 
 long : (d : ℕ) → 1000000000 < d → spanCheck d ≡ Refused refusal.TooLong
 long d l = unless-broken (decLe d 1000000000) refusal.TooLong (λ g. let f : ⊥ = omega arith in f)

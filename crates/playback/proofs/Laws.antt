@@ -18,31 +18,15 @@ use Rattle.run.specs.Run.{playing, stateAt}
 use Rattle.run.specs.Sound.{SoundRun}
 use Rattle.run.specs.Decisions.{sound?, true?, soundCheck}
 use Rattle.run.specs.Steps.{passed, taken, landed}
+use Rattle.run.specs.Answers.{moved, sessionCheck}
 use Rattle.run.specs.Laws.{Kept}
+use Rattle.run.proofs.Answered.{moved-either, moved-back}
 use Rattle.run.proofs.Steps.{passed-sound, taken-sound, landed-sound, read-below}
 use Rattle.run.proofs.Rest.{same-kept, passed-kept, taken-kept, landed-kept, kept-then}
-use Rattle.player.specs.Answers.{startCheck, heldCheck}
-use Rattle.playback.specs.Answers.{moved, spanCheck, passCheck, passOf, sessionCheck, takeCheck, takeOf}
+use Rattle.player.specs.Answers.{earlyCheck, heldCheck}
+use Rattle.playback.specs.Answers.{spanCheck, passCheck, passOf, takeCheck, takeOf}
 use Rattle.playback.specs.Answers.{busyCheck, finishCheck, landedFor, finishOf}
 use Rattle.playback.proofs.Calls.{passed-reads}
-
--- ---- by the check
-
-module _ (k : Check) (r next : Run) where
-  -- what holds of the run given, and of the next where the call is granted
-  pub moved-either : (P : Run → Type 0) → P r → (k ≡ Within → P next) → P (moved k r next .run)
-  moved-either P h f = from k refl
-    where
-      from : (j : Check) → k ≡ j → P (moved j r next .run)
-      from Within e = f e
-      from (Refused w) e = h
-
-  pub moved-back : (w : Refusal) → moved k r next .check ≡ Refused w → moved k r next .run ≡ r
-  moved-back w e = from k e
-    where
-      from : (j : Check) → moved j r next .check ≡ Refused w → moved j r next .run ≡ r
-      from Within f = within-refused f
-      from (Refused v) f = refl
 
 -- ---- pass
 
@@ -71,15 +55,15 @@ module _ (r : Run) (i n : ℕ) where
   takes : takeCheck r i n ≡ Within → Takes r i n
   unfolding takeCheck
   takes e =
-      let late = first (startCheck (r .started)) (heldCheck (stateAt r i) n) in
+      let late = first (earlyCheck (r .started)) (heldCheck (stateAt r i) n) in
       let a = first-right (soundCheck r) (first (sessionCheck r i) late) e in
       let b = first-right (sessionCheck r i) late a in
       record {
         playing = unless-within (decLt i (playing r)) refusal.NoSession (first-left (sessionCheck r i) late a);
-        started = unless-within (true? (r .started)) refusal.NotStarted (first-left (startCheck (r .started)) (heldCheck (stateAt r i) n) b);
+        started = unless-within (true? (r .started)) refusal.NotStarted (first-left (earlyCheck (r .started)) (heldCheck (stateAt r i) n) b);
         held =
             unless-within (decLe n (stateAt r i .put - stateAt r i .taken)) refusal.TooMuch
-            (first-right (startCheck (r .started)) (heldCheck (stateAt r i) n) b);
+            (first-right (earlyCheck (r .started)) (heldCheck (stateAt r i) n) b);
       }
 
   pub take-sound : playing r ≤ length (r .states) → SoundRun r → SoundRun (takeOf r i n .run)

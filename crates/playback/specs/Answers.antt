@@ -1,6 +1,6 @@
 -- What each call answers: docs/RULES.md, section 9.
 use Prim.Native.Nat.{ℕ}
-use native.Mathlib.Decide.{decLe, decLt}
+use native.Mathlib.Decide.{decLe}
 use Rattle.drive.specs.declared.refusal.Refusal.the-variants as refusal
 use Rattle.drive.specs.declared.refusal.Check.{Check}
 use Rattle.drive.specs.declared.refusal.Check.the-variants.{Within, Refused}
@@ -8,16 +8,12 @@ use Rattle.drive.specs.Checks.{unless, first}
 use Rattle.run.specs.declared.Underway.{Underway}
 use Rattle.run.specs.declared.Underway.the-variants as underway
 use Rattle.run.specs.declared.Run.{Run}
-use Rattle.run.specs.Run.{playing, stateAt}
+use Rattle.run.specs.Run.{stateAt}
+use Rattle.run.specs.declared.Moved.{Moved}
 use Rattle.run.specs.Decisions.{soundCheck}
+use Rattle.run.specs.Answers.{moved, sessionCheck}
 use Rattle.run.specs.Steps.{passed, taken, landed}
-use Rattle.player.specs.Answers.{startCheck, heldCheck}
-use Rattle.playback.specs.declared.Moved.{Moved}
-
--- Granted, the next run; refused, the run that was given.
-abbrev pub moved : Check → Run → Run → Moved
-moved Within r next = record { check = Within; run = next }
-moved (Refused w) r next = record { check = Refused w; run = r }
+use Rattle.player.specs.Answers.{earlyCheck, heldCheck}
 
 -- ---- pass
 
@@ -34,13 +30,9 @@ passOf r d = moved (passCheck r d) r (passed r d)
 
 -- ---- take
 
--- 9: no such session
-abbrev pub sessionCheck : Run → ℕ → Check
-sessionCheck r i = unless (decLt i (playing r)) refusal.NoSession
-
 -- 19, 9, 12, 10: of a sound run's session a player is told 12 and 10
 unfoldable pub takeCheck : Run → ℕ → ℕ → Check
-takeCheck r i n = first (soundCheck r) (first (sessionCheck r i) (first (startCheck (r .started)) (heldCheck (stateAt r i) n)))
+takeCheck r i n = first (soundCheck r) (first (sessionCheck r i) (first (earlyCheck (r .started)) (heldCheck (stateAt r i) n)))
 
 unfoldable pub takeOf : Run → ℕ → ℕ → Moved
 takeOf r i n = moved (takeCheck r i n) r (taken r i n)

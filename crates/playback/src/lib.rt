@@ -12,17 +12,12 @@ use crate::cycle::land;
 use drive::refusal::Check;
 use drive::refusal::Refusal;
 use player::take_from;
+use run::Moved;
 use run::Run;
 use run::State;
 use run::Underway;
 use run::sound::Test;
 use run::sound::test_run;
-
-// What a call answers, and the run after it: the next one, or the one that was given.
-pub struct Moved {
-    pub check: Check,
-    pub run: Run,
-}
 
 // C of one session after d µs.
 fn tick(rate: u32, d: u64, state: State) -> State

@@ -15,7 +15,7 @@ use Rattle.run.specs.Sound.{StateSound}
 use Rattle.run.specs.Decisions.{true?, state?}
 use Rattle.run.specs.Steps.{drawn}
 use Rattle.run.proofs.Steps.{drawn-sound}
-use Rattle.player.specs.Answers.{stateCheck, startCheck, heldCheck, takeCheck, drawnBy, drawnOf}
+use Rattle.player.specs.Answers.{stateCheck, earlyCheck, heldCheck, takeCheck, drawnBy, drawnOf}
 
 -- What a granted take rests on.
 record Grants (s : State) (x : Session) (b : Bool) (n : ℕ) : Type 0 where
@@ -58,12 +58,12 @@ module _ (s : State) (x : Session) (started : Bool) (n : ℕ) where
   grants : takeCheck started x s n ≡ Within → Grants s x started n
   unfolding takeCheck
   grants e =
-      let late = first (startCheck started) (heldCheck s n) in
+      let late = first (earlyCheck started) (heldCheck s n) in
       let a = first-right (stateCheck started x s) late e in
       record {
         sound = unless-within (state? started x s) refusal.Damaged (first-left (stateCheck started x s) late e);
-        started = unless-within (true? started) refusal.NotStarted (first-left (startCheck started) (heldCheck s n) a);
-        held = unless-within (decLe n (s .put - s .taken)) refusal.TooMuch (first-right (startCheck started) (heldCheck s n) a);
+        started = unless-within (true? started) refusal.NotStarted (first-left (earlyCheck started) (heldCheck s n) a);
+        held = unless-within (decLe n (s .put - s .taken)) refusal.TooMuch (first-right (earlyCheck started) (heldCheck s n) a);
       }
 
   -- granted, G has moved forward by n and nothing else

@@ -17,7 +17,7 @@ use Rattle.run.specs.Decisions.{true?, state?}
 use Rattle.run.specs.Steps.{drawn}
 use Rattle.run.proofs.States.{true-false}
 use Rattle.player.specs.declared.Drawn.{Drawn}
-use Rattle.player.specs.Answers.{startCheck, heldCheck, takeCheck, drawnBy, drawnOf}
+use Rattle.player.specs.Answers.{earlyCheck, heldCheck, takeCheck, drawnBy, drawnOf}
 
 abbrev refused : State → Refusal → Drawn
 refused s w = record { check = Refused w; state = s }
@@ -33,7 +33,7 @@ module _ (s : State) (x : Session) (started : Bool) (n : ℕ) where
 
   module _ (h : StateSound started x s) where
     -- Of a sound state 12 and 10 are left to test.
-    pub take-sound : takeCheck started x s n ≡ first (startCheck started) (heldCheck s n)
+    pub take-sound : takeCheck started x s n ≡ first (earlyCheck started) (heldCheck s n)
     unfolding takeCheck
     take-sound = first-within _ _ (unless-kept (state? started x s) refusal.Damaged h)
 

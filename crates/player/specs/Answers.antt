@@ -17,8 +17,8 @@ abbrev pub stateCheck : Bool → Session → State → Check
 stateCheck started x s = unless (state? started x s) refusal.Damaged
 
 -- 12: before the start
-abbrev pub startCheck : Bool → Check
-startCheck started = unless (true? started) refusal.NotStarted
+abbrev pub earlyCheck : Bool → Check
+earlyCheck started = unless (true? started) refusal.NotStarted
 
 -- 10: more than P - G
 abbrev pub heldCheck : State → ℕ → Check
@@ -26,7 +26,7 @@ heldCheck s n = unless (decLe n (s .put - s .taken)) refusal.TooMuch
 
 -- 19, 12, 10
 unfoldable pub takeCheck : Bool → Session → State → ℕ → Check
-takeCheck started x s n = first (stateCheck started x s) (first (startCheck started) (heldCheck s n))
+takeCheck started x s n = first (stateCheck started x s) (first (earlyCheck started) (heldCheck s n))
 
 -- Granted, the next state; refused, the state that was given.
 abbrev pub drawnBy : Check → State → State → Drawn

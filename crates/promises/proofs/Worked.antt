@@ -27,7 +27,7 @@ use Rattle.run.specs.declared.Run.{Run}
 use Rattle.run.specs.Sound.{SoundRun}
 use Rattle.run.specs.Decisions.{below?, some?, show?, good?, false?, true?, waiting?, state?, named?, nothing?, room?, put?, mayRead?, underway?, cycle?, sound?}
 use Rattle.run.specs.Steps.{changed, passed}
-use Rattle.playback.specs.declared.Moved.{Moved}
+use Rattle.run.specs.declared.Moved.{Moved}
 use Rattle.playback.proofs.Calls.{pass-granted}
 use Rattle.spare.specs.declared.Spared.{Spared}
 use Rattle.spare.specs.Times.{named, running}

@@ -10,3 +10,4 @@ pub mod Tests
 pub mod Begins
 pub mod Full
 pub mod Rest
+pub mod Answered

@@ -27,7 +27,8 @@ use Rattle.run.proofs.Steps.{nothing-read}
 use Rattle.run.specs.Sound.{StateSound, StatesSound, Resting, Turning, MayRead, CycleSound, SoundRun}
 use Rattle.run.specs.declared.sound.Test.{Test}
 use Rattle.run.specs.declared.sound.Test.the-variants as test
-use Rattle.run.specs.Decisions.{sound?, testOf, freeCheck, soundCheck}
+use Rattle.run.specs.Decisions.{sound?, testOf, soundCheck}
+use Rattle.run.specs.Answers.{freeCheck}
 
 -- ---- the counts
 

@@ -10,9 +10,8 @@ use native.Mathlib.Omega.{arith}
 use lib.ListN.{getD}
 use Rattle.drive.specs.declared.Session.{Session}
 use Rattle.drive.specs.declared.Show.{Show}
-use Rattle.drive.specs.declared.refusal.Refusal.the-variants.{ReadUnderway, Damaged}
+use Rattle.drive.specs.declared.refusal.Refusal.the-variants.{Damaged}
 use Rattle.drive.specs.declared.refusal.Check.{Check}
-use Rattle.drive.specs.declared.refusal.Check.the-variants.{Within, Refused}
 use Rattle.drive.specs.Checks.{unless}
 use Rattle.drive.specs.Limits.{ShowWithin, layoutAt, sessionAt}
 use Rattle.drive.specs.Decisions.{decided, between?, counts?, drive?, layout?, session?}
@@ -151,11 +150,6 @@ sound? r =
 -- what the test of a record answers
 abbrev pub testOf : Run → Test
 testOf r = ite (sound? r) test.Sound test.Damaged
-
--- 13: a read is under way
-abbrev pub freeCheck : Underway → Check
-freeCheck Nothing = Within
-freeCheck (Read i) = Refused ReadUnderway
 
 -- 19
 abbrev pub soundCheck : Run → Check

@@ -127,6 +127,12 @@ impl Run {
     }
 }
 
+// What a call on a run answers, and the run after it: the next one, or the one that was given.
+pub struct Moved {
+    pub check: Check,
+    pub run: Run,
+}
+
 // A run that can begin, or why there is none; refused, the run is zeros.
 pub struct Opened {
     pub check: Check,

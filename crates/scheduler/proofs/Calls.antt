@@ -11,7 +11,7 @@ use Rattle.run.specs.declared.Underway.the-variants as underway
 use Rattle.run.specs.declared.Run.{Run}
 use Rattle.run.specs.Run.{playing}
 use Rattle.run.specs.Sound.{SoundRun}
-use Rattle.run.specs.Decisions.{freeCheck}
+use Rattle.run.specs.Answers.{freeCheck}
 use Rattle.run.specs.Steps.{skipped, idled}
 use Rattle.run.proofs.Tests.{damaged-first, sound-then}
 use Rattle.scheduler.specs.declared.Choice.the-variants as choice

@@ -13,7 +13,8 @@ use Rattle.run.specs.declared.Underway.the-variants as underway
 use Rattle.run.specs.declared.Run.{Run}
 use Rattle.run.specs.Run.{playing, seatAt, onward, PutAt}
 use Rattle.run.specs.Sound.{SoundRun}
-use Rattle.run.specs.Decisions.{put?, freeCheck, soundCheck}
+use Rattle.run.specs.Decisions.{put?, soundCheck}
+use Rattle.run.specs.Answers.{freeCheck}
 use Rattle.run.specs.Steps.{skipped, idled, begun}
 use Rattle.run.specs.Laws.{Kept, Ahead}
 use Rattle.run.proofs.Searches.{skipped-room}

@@ -8,7 +8,8 @@ use Rattle.drive.specs.declared.refusal.Check.the-variants.{Within, Refused}
 use Rattle.drive.specs.Checks.{first}
 use Rattle.run.specs.declared.Run.{Run}
 use Rattle.run.specs.Run.{playing, seatAt, onward}
-use Rattle.run.specs.Decisions.{put?, freeCheck, soundCheck}
+use Rattle.run.specs.Decisions.{put?, soundCheck}
+use Rattle.run.specs.Answers.{freeCheck}
 use Rattle.run.specs.Steps.{skipped, idled, begun}
 use Rattle.scheduler.specs.declared.Choice.{Choice}
 use Rattle.scheduler.specs.declared.Choice.the-variants as choice

@@ -21,13 +21,13 @@ use Rattle.run.specs.declared.Underway.the-variants as underway
 use Rattle.run.specs.declared.Run.{Run}
 use Rattle.run.specs.Run.{playing, countAt}
 use Rattle.run.specs.Sound.{SoundRun, NamesEach}
-use Rattle.run.specs.Decisions.{false?, freeCheck}
+use Rattle.run.specs.Decisions.{false?}
+use Rattle.run.specs.Answers.{moved, freeCheck}
 use Rattle.run.proofs.States.{true-false}
 use Rattle.run.proofs.Orders.{names-below}
 use Rattle.run.proofs.Tests.{damaged-first, sound-then}
-use Rattle.playback.specs.declared.Moved.{Moved}
-use Rattle.playback.specs.Answers.{moved}
-use Rattle.playback.proofs.Calls.{granted, refused, moved-refused, moved-granted}
+use Rattle.run.specs.declared.Moved.{Moved}
+use Rattle.run.proofs.Answered.{granted, refused, moved-refused, moved-granted}
 use Rattle.spare.specs.declared.Spare.the-variants as spare
 use Rattle.spare.specs.declared.Spared.{Spared}
 use Rattle.spare.specs.Times.{aheadAt, slackTime, placeAt, startOrder, running}

@@ -25,15 +25,15 @@ use Rattle.run.specs.declared.Underway.the-variants as underway
 use Rattle.run.specs.declared.Run.{Run}
 use Rattle.run.specs.Run.{playing, stateAt, clipAt}
 use Rattle.run.specs.Sound.{SoundRun}
-use Rattle.run.specs.Decisions.{false?, sound?, freeCheck, soundCheck}
+use Rattle.run.specs.Decisions.{false?, sound?, soundCheck}
+use Rattle.run.specs.Answers.{moved, sessionCheck, freeCheck}
 use Rattle.run.specs.Laws.{Ahead}
 use Rattle.run.proofs.States.{true-false}
 use Rattle.run.proofs.Steps.{nothing-read}
 use Rattle.run.proofs.Tests.{free-nothing}
-use Rattle.playback.specs.declared.Moved.{Moved}
-use Rattle.playback.specs.Answers.{moved, sessionCheck}
+use Rattle.run.specs.declared.Moved.{Moved}
 use Rattle.spare.specs.declared.Spare.the-variants as spare
-use Rattle.playback.proofs.Laws.{moved-either, moved-back}
+use Rattle.run.proofs.Answered.{moved-either, moved-back}
 use Rattle.spare.specs.Times.{aheadAt, timeAt, slackTime, placeAt, startOrder, running}
 use Rattle.spare.specs.Answers.{spared, workaheadOf, someCheck, slackOf, onceCheck, slackCheck, startCheck, startOf}
 use Rattle.spare.specs.Laws.{Started}

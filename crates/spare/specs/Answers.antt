@@ -10,9 +10,9 @@ use Rattle.drive.specs.Checks.{unless, first}
 use Rattle.theory.specs.Spare.{less?}
 use Rattle.run.specs.declared.Run.{Run}
 use Rattle.run.specs.Run.{playing}
-use Rattle.run.specs.Decisions.{false?, soundCheck, freeCheck}
-use Rattle.playback.specs.declared.Moved.{Moved}
-use Rattle.playback.specs.Answers.{moved, sessionCheck}
+use Rattle.run.specs.Decisions.{false?, soundCheck}
+use Rattle.run.specs.Answers.{moved, sessionCheck, freeCheck}
+use Rattle.run.specs.declared.Moved.{Moved}
 use Rattle.spare.specs.declared.Spare.the-variants as spare
 use Rattle.spare.specs.declared.Spared.{Spared}
 use Rattle.spare.specs.Times.{aheadAt, slackTime, running}

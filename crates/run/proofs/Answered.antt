@@ -1,0 +1,37 @@
+-- What a call answers by its check. Assumes nothing.
+use mathlib.Core.Path.{_≡_, refl, sym, ap, _∙_}
+use Rattle.drive.specs.declared.refusal.Refusal.{Refusal}
+use Rattle.drive.specs.declared.refusal.Check.{Check}
+use Rattle.drive.specs.declared.refusal.Check.the-variants.{Within, Refused}
+use Rattle.drive.proofs.Checks.{within-refused}
+use Rattle.run.specs.declared.Run.{Run}
+use Rattle.run.specs.declared.Moved.{Moved}
+use Rattle.run.specs.Answers.{moved}
+
+abbrev pub granted : Run → Moved
+granted q = record { check = Within; run = q }
+
+abbrev pub refused : Run → Refusal → Moved
+refused r w = record { check = Refused w; run = r }
+
+module _ (k : Check) (r next : Run) where
+  pub moved-refused : (w : Refusal) → k ≡ Refused w → refused r w ≡ moved k r next
+  moved-refused w e = ap (λ (x : Check). moved x r next) (sym e)
+
+  pub moved-granted : (q : Run) → k ≡ Within → q ≡ next → granted q ≡ moved k r next
+  moved-granted q e f = ap granted f ∙ ap (λ (x : Check). moved x r next) (sym e)
+
+  -- what holds of the run given, and of the next where the call is granted
+  pub moved-either : (P : Run → Type 0) → P r → (k ≡ Within → P next) → P (moved k r next .run)
+  moved-either P h f = from k refl
+    where
+      from : (j : Check) → k ≡ j → P (moved j r next .run)
+      from Within e = f e
+      from (Refused w) e = h
+
+  pub moved-back : (w : Refusal) → moved k r next .check ≡ Refused w → moved k r next .run ≡ r
+  moved-back w e = from k e
+    where
+      from : (j : Check) → moved j r next .check ≡ Refused w → moved j r next .run ≡ r
+      from Within f = within-refused f
+      from (Refused v) f = refl
