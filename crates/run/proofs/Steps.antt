@@ -44,7 +44,7 @@ module _ {started : Bool} {x : Session} {s : State} (h : StateSound started x s)
         early = λ f. true-false (sym e ∙ f);
       }
 
-  drawn-sound : (n : ℕ) → started ≡ true → n ≤ s .put - s .taken → StateSound started x (drawn n s)
+  pub drawn-sound : (n : ℕ) → started ≡ true → n ≤ s .put - s .taken → StateSound started x (drawn n s)
   drawn-sound n e l =
       let t = h .taken in
       let b = h .held in
