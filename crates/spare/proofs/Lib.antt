@@ -1,0 +1,5 @@
+pub mod Truncated
+pub mod Aheads
+pub mod Orders
+pub mod Standings
+pub mod Calls

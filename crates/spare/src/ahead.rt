@@ -1,5 +1,5 @@
 // How far a session is ahead of its player.
-ghost use Prim.Native.Nat.{_*_, _≤_};
+ghost use Prim.Native.Nat.{_*_, _≤_, _<_};
 ghost use mathlib.Core.Path.{_≡_};
 ghost use Rattle.theory.specs.Floor.{Floors};
 ghost use Rattle.run.specs.Run.{putMost};
@@ -12,7 +12,7 @@ use run::State;
 
 // x / r rounded down: toward zero, and one less where the remainder is below zero.
 fn floor_div(x: i64, r: u32) -> i64
-    requires { ⌜ 1 ≤ r ⌝ }
+    requires { ⌜ 0 < r ⌝ }
     ensures { λ q. ⌜ Floors x r q ⌝ }
 {
     let d = r as i64;
@@ -26,7 +26,7 @@ fn floor_div(x: i64, r: u32) -> i64
 // ((P - Y) x 1,000,000 - C) / R in µs.
 pub(crate) fn ahead(state: State, session: Session) -> i64
     requires { ⌜ (state .put ≤ putMost) × (state .clock ≤ putMost * 1000000) ⌝ }
-    requires { ⌜ 1 ≤ session .rate ⌝ }
+    requires { ⌜ 0 < session .rate ⌝ }
     ensures { λ r. ⌜ r ≡ aheadOf session state ⌝ }
 {
     let bytes = state.put as i64 - session.cushion as i64;

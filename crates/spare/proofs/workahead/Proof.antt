@@ -1,53 +1,49 @@
+-- `workahead` answers that of one session. Assumes nothing.
+use mir.Syntax.{w64}
+use mir.Val.{toZ, ofZ}
+use mathlib.Core.Path.{_≡_, _∙_}
+use native.Mathlib.Omega.{arith}
+use Rattle.run.proofs.Tests.{tested-sound, tested-damaged}
+use Rattle.spare.proofs.Aheads.{counting}
+use Rattle.spare.proofs.Calls.{workahead-damaged, workahead-nobody, workahead-time}
 use borrow.Author.Needs.{needs}
-use Rattle.spare.proofs.workahead.Statement.{statement}
 use Rattle.spare.proofs.workahead.Tie as tie
-use Rattle.spare.proofs.workahead.Reads as reads
-use Rattle.spare.proofs.workahead.Lts as lts
-use Rattle.run.proofs.sound.test_run.Reads as test-run-reads
-use Rattle.spare.proofs.ahead.ahead.Reads as ahead-reads
+use Rattle.spare.proofs.workahead.Statement.{statement}
 
--- src/lib.rt:43:23
 test-run-requires : tie.Need-test-run-requires
 test-run-requires c κs = search needs
 
 enum-told : tie.Need-enum-told
 enum-told c = search needs
 
--- src/lib.rt:45:35
 enum-told-2 : tie.Need-enum-told-2
 enum-told-2 c = search needs
 
--- src/lib.rt:44:9
 returns : tie.Need-returns
-returns c = ?
+returns c = workahead-damaged _ _ (tested-damaged _ _ (c .before .before .test-run .ensures) (c .enum-told2 .given .1))
 
--- src/lib.rt:50:9
 returns-2 : tie.Need-returns-2
-returns-2 c = ?
+returns-2 c = workahead-nobody _ _ (tested-sound _ _ (c .before .before .before .test-run .ensures) (c .before .enum-told .given .1)) (c .if1 .taken)
 
--- src/lib.rt:57:34
 mul-ahead : tie.Need-mul-ahead
-mul-ahead c = ?
+mul-ahead c = let k = counting _ (tested-sound _ _ (c .before .before .before .before .test-run .ensures) (c .before .before .enum-told .given .1)) _ (c .before .if1 .left) .place in omega arith
 
--- src/lib.rt:57:34
 element-copy-out-ahead : tie.Need-element-copy-out-ahead
-element-copy-out-ahead c = ?
+element-copy-out-ahead c = counting _ (tested-sound _ _ (c .before .before .before .before .test-run .ensures) (c .before .before .enum-told .given .1)) _ (c .before .if1 .left) .place
 
--- src/lib.rt:57:55
 mul-ahead-2 : tie.Need-mul-ahead-2
-mul-ahead-2 c = ?
+mul-ahead-2 c = let k = counting _ (tested-sound _ _ (c .before .before .before .before .before .test-run .ensures) (c .before .before .before .enum-told .given .1)) _ (c .before .before .if1 .left) .place in omega arith
 
--- src/lib.rt:57:55
 element-copy-out-ahead-2 : tie.Need-element-copy-out-ahead-2
-element-copy-out-ahead-2 c = ?
+element-copy-out-ahead-2 c = counting _ (tested-sound _ _ (c .before .before .before .before .before .test-run .ensures) (c .before .before .before .enum-told .given .1)) _ (c .before .before .if1 .left) .place
 
--- src/lib.rt:57:28
 ahead-requires : tie.Need-ahead-requires
-ahead-requires c κs = ?
+ahead-requires c κs = let k = counting _ (tested-sound _ _ (c .before .before .before .before .before .before .test-run .ensures) (c .before .before .before .before .enum-told .given .1)) _ (c .before .before .before .if1 .left) in ((k .put, k .clock), k .rate)
 
--- src/lib.rt:40:1
 returns-3 : tie.Need-returns-3
-returns-3 c = ?
+returns-3 c =
+    let b : toZ w64 (ofZ w64 (c .ahead .result)) ≡ c .ahead .result = search needs in
+    workahead-time _ _ (tested-sound _ _ (c .before .before .before .before .before .before .before .test-run .ensures) (c .before .before .before .before .before .enum-told .given .1)) _ (c .before .before .before .before .if1 .left) (b ∙ c .ahead .ensures)
 
 pub workahead-spec : {M : Type 1} → statement M
 workahead-spec =

@@ -1,62 +1,65 @@
-use Rattle.spare.proofs.ahead.aheads.Statement.{statement}
+-- `aheads` fills a row from the front. Invariant: the first i workaheads stand there, zeros above; what falls: playing - i. Assumes nothing.
+use Prim.Native.Nat.{ℕ, _-_, _≤_}
+use mathlib.Core.Path.{_≡_, _∙_, ap}
+use mathlib.Core.List.{List}
+use native.Mathlib.Omega.{arith}
+use lib.IntN.{ℤ, pos}
+use lib.ListN.{set}
+use mir.Syntax.{w64}
+use mir.Val.{toZ, ofZ}
+use Rattle.drive.specs.Lists.{listed, padded}
+use Rattle.drive.proofs.Lists.{filled-none, filled-more}
+use Rattle.spare.specs.Times.{aheadAt}
+use Rattle.spare.proofs.Aheads.{Counting, counting}
 use Rattle.spare.proofs.ahead.aheads.Tie as tie
-use Rattle.spare.proofs.ahead.aheads.Reads as reads
-use Rattle.spare.proofs.ahead.aheads.Lts as lts
-use Rattle.spare.proofs.ahead.ahead.Reads as ahead-reads
+use borrow.Author.Needs.{needs}
+use Rattle.spare.proofs.ahead.aheads.Statement.{statement}
 
 abbrev Inv-loop : tie.InvT-loop
-Inv-loop run show aheads₀ i₀ aheads i = ?
+Inv-loop run show aheads₀ i₀ aheads i = (aheads ≡ padded 16 (pos 0) (listed (aheadAt run) i)) × (i ≤ run .show .playing)
 
 abbrev μ-loop : tie.MeasureT-loop
-μ-loop run show aheads₀ i₀ aheads i = ?
+μ-loop run show aheads₀ i₀ aheads i = run .show .playing - i
 
--- src/ahead.rt:45:5
 loop-holds : tie.Need-loop-holds Inv-loop μ-loop
-loop-holds c = ?
+loop-holds c = (filled-none 16 (pos 0) _, omega arith)
 
--- src/ahead.rt:46:27
 mul-ahead : tie.Need-mul-ahead Inv-loop μ-loop
-mul-ahead c = ?
+mul-ahead c = let k = counting _ (c .before .before .before .pre) _ (c .loop-test .taken) .place in omega arith
 
--- src/ahead.rt:46:27
 element-copy-out-ahead : tie.Need-element-copy-out-ahead Inv-loop μ-loop
-element-copy-out-ahead c = ?
+element-copy-out-ahead c = counting _ (c .before .before .before .pre) _ (c .loop-test .taken) .place
 
--- src/ahead.rt:46:42
 mul-ahead-2 : tie.Need-mul-ahead-2 Inv-loop μ-loop
-mul-ahead-2 c = ?
+mul-ahead-2 c = let k = counting _ (c .before .before .before .before .pre) _ (c .before .loop-test .taken) .place in omega arith
 
--- src/ahead.rt:46:42
 element-copy-out-ahead-2 : tie.Need-element-copy-out-ahead-2 Inv-loop μ-loop
-element-copy-out-ahead-2 c = ?
+element-copy-out-ahead-2 c = counting _ (c .before .before .before .before .pre) _ (c .before .loop-test .taken) .place
 
--- src/ahead.rt:46:21
 ahead-requires : tie.Need-ahead-requires Inv-loop μ-loop
-ahead-requires c κs = ?
+ahead-requires c κs = let k = counting _ (c .before .before .before .before .before .pre) _ (c .before .before .loop-test .taken) in ((k .put, k .clock), k .rate)
 
--- src/ahead.rt:46:9
 mul-aheads : tie.Need-mul-aheads Inv-loop μ-loop
-mul-aheads c = ?
+mul-aheads c = let k = counting _ (c .before .before .before .before .before .before .pre) _ (c .before .before .before .loop-test .taken) .place in omega arith
 
--- src/ahead.rt:46:9
 array-set-from-aheads : tie.Need-array-set-from-aheads Inv-loop μ-loop
-array-set-from-aheads c = ?
+array-set-from-aheads c = counting _ (c .before .before .before .before .before .before .pre) _ (c .before .before .before .loop-test .taken) .place
 
--- src/ahead.rt:47:9
 add-i : tie.Need-add-i Inv-loop μ-loop
-add-i c = ?
+add-i c = let k = counting _ (c .before .before .before .before .before .before .pre) _ (c .before .before .before .loop-test .taken) .place in omega arith
 
--- src/ahead.rt:45:5
 loop-less : tie.Need-loop-less Inv-loop μ-loop
-loop-less c = ?
+loop-less c = let l = c .before .before .before .loop-test .taken in omega arith
 
--- src/ahead.rt:45:5
 loop-again : tie.Need-loop-again Inv-loop μ-loop
-loop-again c = ?
+loop-again c =
+    let i = c .before .before .before .before .loop .i in
+    let b : toZ w64 (ofZ w64 (c .ahead .result)) ≡ c .ahead .result = search needs in
+    let k = counting _ (c .before .before .before .before .before .before .pre) _ (c .before .before .before .loop-test .taken) .place in
+    (ap (λ (l : List ℤ). set l i (toZ w64 (ofZ w64 (c .ahead .result)))) (c .before .before .before .before .loop .inv .0) ∙ ap (set (padded 16 (pos 0) (listed (aheadAt (c .before .before .before .before .before .before .args .t1)) i)) i) (b ∙ c .ahead .ensures) ∙ filled-more 16 (pos 0) (aheadAt (c .before .before .before .before .before .before .args .t1)) i k, (let l = c .before .before .before .loop-test .taken in omega arith))
 
--- src/ahead.rt:38:1
 returns : tie.Need-returns Inv-loop μ-loop
-returns c = ?
+returns c = c .before .loop .inv .0 ∙ ap (λ (k : ℕ). padded 16 (pos 0) (listed (aheadAt (c .before .before .before .args .t1)) k)) (let l = c .loop-test .left in let h = c .before .loop .inv .1 in omega arith)
 
 pub aheads-spec : {M : Type 1} → statement M
 aheads-spec =

@@ -1,32 +1,47 @@
+-- `floor_div` rounds down. Assumes nothing.
+use Prim.Native.Nat.{ℕ}
+use mir.Facts.{toZ-ofZ}
+use Rattle.theory.proofs.Floor.{floor-floors}
+use Rattle.spare.proofs.Truncated.{small, quot-fits, rem-fits, floor-fits, truncated-low, truncated-even}
 use borrow.Author.Needs.{needs}
-use Rattle.spare.proofs.ahead.floor_div.Statement.{statement}
 use Rattle.spare.proofs.ahead.floor_div.Tie as tie
-use Rattle.spare.proofs.ahead.floor_div.Reads as reads
-use Rattle.spare.proofs.ahead.floor_div.Lts as lts
+use Rattle.spare.proofs.ahead.floor_div.Statement.{statement}
 
--- src/ahead.rt:18:13
 cast-d : tie.Need-cast-d
 cast-d c = search needs
 
--- src/ahead.rt:19:13
 div-q : tie.Need-div-q
-div-q c = ?
+div-q c = (c .pre, simp (toZ-ofZ (c .fits .x), small (c .fits .r .fits)) (quot-fits (c .args .x) (c .args .r) (c .fits .x)))
 
--- src/ahead.rt:20:8
 rem-if1 : tie.Need-rem-if1
-rem-if1 c = ?
+rem-if1 c = (c .pre, simp (toZ-ofZ (c .fits .x), small (c .fits .r .fits)) (quot-fits (c .args .x) (c .args .r) (c .fits .x)))
 
--- src/ahead.rt:21:16
 sub-result : tie.Need-sub-result
-sub-result c = ?
+sub-result c =
+    let x = c .before .args .x in
+    let r = c .before .args .r in
+    let f = c .before .fits .x in
+    let s = small (c .before .fits .r .fits) in
+    let low = truncated-low x r (c .before .pre) (simp (toZ-ofZ f, s, toZ-ofZ (rem-fits x r f)) at (c .if1 .taken)) in
+    simp (toZ-ofZ f, s, toZ-ofZ (quot-fits x r f), low) (floor-fits x r f)
 
--- src/ahead.rt:21:9
 returns : tie.Need-returns
-returns c = ?
+returns c =
+    let x = c .before .args .x in
+    let r = c .before .args .r in
+    let f = c .before .fits .x in
+    let s = small (c .before .fits .r .fits) in
+    let low = truncated-low x r (c .before .pre) (simp (toZ-ofZ f, s, toZ-ofZ (rem-fits x r f)) at (c .if1 .taken)) in
+    simp (toZ-ofZ f, s, toZ-ofZ (quot-fits x r f), low, toZ-ofZ (floor-fits x r f)) (floor-floors x r (c .before .pre))
 
--- src/ahead.rt:14:1
 returns-2 : tie.Need-returns-2
-returns-2 c = ?
+returns-2 c =
+    let x = c .before .args .x in
+    let r = c .before .args .r in
+    let f = c .before .fits .x in
+    let s = small (c .before .fits .r .fits) in
+    let even = truncated-even x r (c .before .pre) (simp (toZ-ofZ f, s, toZ-ofZ (rem-fits x r f)) at (c .if1 .left)) in
+    simp (toZ-ofZ f, s, toZ-ofZ (quot-fits x r f), even, toZ-ofZ (floor-fits x r f)) (floor-floors x r (c .before .pre))
 
 pub floor-div-spec : {M : Type 1} → statement M
 floor-div-spec = tie.close (tie.spec cast-d div-q rem-if1 sub-result returns returns-2)

@@ -1,0 +1,163 @@
+-- What each call answers, case by case. Assumes nothing.
+use Prim.Native.Nat.{ℕ, _≤_, _<_}
+use mathlib.Core.Path.{_≡_, sym, ap, subst, _∙_}
+use mathlib.Core.Bool.{true, false}
+use mathlib.Core.Logic.{if-pos, if-neg}
+use mathlib.Core.List.{List}
+use native.Mathlib.Decide.{decLt}
+use native.Mathlib.Omega.{arith}
+use lib.IntN.{ℤ, pos}
+use lib.ListN.{length, getD}
+use lib.Signed.{_<ℤ_}
+use Rattle.drive.specs.declared.refusal.Refusal.{Refusal}
+use Rattle.drive.specs.declared.refusal.Refusal.the-variants as refusal
+use Rattle.drive.specs.declared.refusal.Check.{Check}
+use Rattle.drive.specs.declared.refusal.Check.the-variants.{Within, Refused}
+use Rattle.drive.specs.Checks.{first}
+use Rattle.drive.proofs.Checks.{unless-kept, unless-broken, first-refused, first-within}
+use Rattle.theory.specs.Spare.{less?}
+use Rattle.theory.proofs.Spare.{rank-below, rank-apart}
+use Rattle.run.specs.declared.Underway.the-variants as underway
+use Rattle.run.specs.declared.Run.{Run}
+use Rattle.run.specs.Run.{playing, countAt}
+use Rattle.run.specs.Sound.{SoundRun, NamesEach}
+use Rattle.run.specs.Decisions.{false?, freeCheck}
+use Rattle.run.proofs.States.{true-false}
+use Rattle.run.proofs.Orders.{names-below}
+use Rattle.run.proofs.Tests.{damaged-first, sound-then}
+use Rattle.playback.specs.declared.Moved.{Moved}
+use Rattle.playback.specs.Answers.{moved}
+use Rattle.playback.proofs.Calls.{granted, refused, moved-refused, moved-granted}
+use Rattle.spare.specs.declared.Spare.the-variants as spare
+use Rattle.spare.specs.declared.Spared.{Spared}
+use Rattle.spare.specs.Times.{aheadAt, slackTime, placeAt, startOrder, running}
+use Rattle.spare.specs.Answers.{spared, workaheadOf, someCheck, slackOf, onceCheck, slackCheck, startCheck, startOf}
+use Rattle.spare.proofs.Orders.{named-each}
+
+-- ---- by the check
+
+abbrev timed : ℤ → Run → Spared
+timed z r = record { spare = spare.Time z; run = r }
+
+abbrev untimed : Run → Refusal → Spared
+untimed r w = record { spare = spare.Refused w; run = r }
+
+module _ (k : Check) (z : ℤ) (r : Run) where
+  spared-refused : (w : Refusal) → k ≡ Refused w → untimed r w ≡ spared k z r
+  spared-refused w e = ap (λ (x : Check). spared x z r) (sym e)
+
+  spared-timed : (y : ℤ) → k ≡ Within → y ≡ z → timed y r ≡ spared k z r
+  spared-timed y e f = ap (λ (x : ℤ). timed x r) f ∙ ap (λ (x : Check). spared x z r) (sym e)
+
+-- ---- workahead
+
+module _ (r : Run) (i : ℕ) where
+  pub workahead-damaged : (SoundRun r → ⊥) → untimed r refusal.Damaged ≡ workaheadOf r i
+  unfolding workaheadOf
+  workahead-damaged n = spared-refused _ _ r refusal.Damaged (damaged-first r _ n)
+
+  module _ (s : SoundRun r) where
+    pub workahead-nobody : playing r ≤ i → untimed r refusal.NoSession ≡ workaheadOf r i
+    unfolding workaheadOf
+    workahead-nobody l =
+        spared-refused _ _ r refusal.NoSession
+        (sound-then r _ s ∙ unless-broken (decLt i (playing r)) refusal.NoSession (λ g. let f : ⊥ = omega arith in f))
+
+    pub workahead-time : (z : ℤ) → i < playing r → z ≡ aheadAt r i → timed z r ≡ workaheadOf r i
+    unfolding workaheadOf
+    workahead-time z l e =
+        spared-timed _ _ r z (sound-then r _ s ∙ unless-kept (decLt i (playing r)) refusal.NoSession l) e
+
+-- ---- slack
+
+module _ (r : Run) where
+  pub slack-damaged : (SoundRun r → ⊥) → untimed r refusal.Damaged ≡ slackOf r
+  unfolding slackOf
+  slack-damaged n = spared-refused _ _ r refusal.Damaged (damaged-first r _ n)
+
+  nobody : playing r ≡ 0 → someCheck r ≡ Refused refusal.NoSession
+  nobody e = unless-broken (decLt 0 (playing r)) refusal.NoSession (λ g. let f : ⊥ = omega arith in f)
+
+  somebody : 0 < playing r → someCheck r ≡ Within
+  somebody l = unless-kept (decLt 0 (playing r)) refusal.NoSession l
+
+  module _ (s : SoundRun r) where
+    pub slack-empty : playing r ≡ 0 → untimed r refusal.NoSession ≡ slackOf r
+    unfolding slackOf
+    slack-empty e = spared-refused _ _ r refusal.NoSession (sound-then r _ s ∙ nobody e)
+
+    pub slack-time : (z : ℤ) → 0 < playing r → z ≡ slackTime r → timed z r ≡ slackOf r
+    unfolding slackOf
+    slack-time z l e = spared-timed _ _ r z (sound-then r _ s ∙ somebody l) e
+
+  -- ---- start
+
+  pub start-damaged : (SoundRun r → ⊥) → refused r refusal.Damaged ≡ startOf r
+  unfolding startOf startCheck
+  start-damaged n = moved-refused _ r _ refusal.Damaged (damaged-first r _ n)
+
+  module _ (s : SoundRun r) where
+    pub start-again : r .started ≡ true → refused r refusal.AlreadyStarted ≡ startOf r
+    unfolding startOf startCheck
+    start-again e =
+        moved-refused _ r _ refusal.AlreadyStarted
+        (sound-then r _ s
+        ∙ first-refused _ _ (unless-broken (false? (r .started)) refusal.AlreadyStarted (λ g. true-false (sym e ∙ g))))
+
+    module _ (e : r .started ≡ false) where
+      fresh : (c : Check) → first (onceCheck r) c ≡ c
+      fresh c = first-within _ c (unless-kept (false? (r .started)) refusal.AlreadyStarted e)
+
+      pub start-busy : (i : ℕ) → r .underway ≡ underway.Read i → refused r refusal.ReadUnderway ≡ startOf r
+      unfolding startOf startCheck
+      start-busy i u =
+          moved-refused _ r _ refusal.ReadUnderway (sound-then r _ s ∙ fresh _ ∙ first-refused _ _ (ap freeCheck u))
+
+      module _ (u : r .underway ≡ underway.Nothing) where
+        free : (c : Check) → first (freeCheck (r .underway)) c ≡ c
+        free c = first-within _ c (ap freeCheck u)
+
+        pub start-empty : playing r ≡ 0 → refused r refusal.NoSession ≡ startOf r
+        unfolding startOf startCheck
+        start-empty z =
+            moved-refused _ r _ refusal.NoSession (sound-then r _ s ∙ fresh _ ∙ free _ ∙ first-refused _ _ (nobody z))
+
+        pub start-begins : (m : Moved) → 0 < playing r → m ≡ moved (slackCheck r) r (running r) → m ≡ startOf r
+        unfolding startOf startCheck
+        start-begins m l f =
+            f
+            ∙ ap (λ (x : Check). moved x r (running r))
+            (sym (sound-then r _ s ∙ fresh _ ∙ free _ ∙ first-within _ _ (somebody l)))
+
+  pub begin-negative : slackTime r <ℤ pos 0 → refused r refusal.NegativeSlack ≡ moved (slackCheck r) r (running r)
+  unfolding slackCheck
+  begin-negative l = moved-refused _ r _ refusal.NegativeSlack (if-pos (less? (slackTime r) (pos 0)) l _ _)
+
+  pub begin-granted : (q : Run) → (slackTime r <ℤ pos 0 → ⊥) → q ≡ running r → granted q ≡ moved (slackCheck r) r (running r)
+  unfolding slackCheck
+  begin-granted q l e = moved-granted _ r _ q (if-neg (less? (slackTime r) (pos 0)) l _ _) e
+
+-- ---- the cycle after the start
+
+module _ (r : Run) (n : playing r ≤ length (r .order)) where
+  pub start-names : NamesEach (startOrder r) (playing r)
+  start-names =
+      named-each (placeAt r) (r .order) (playing r) n (rank-below (aheadAt r) (playing r)) (rank-apart (aheadAt r) (playing r))
+
+  pub start-first : 0 < playing r → getD (startOrder r) 0 0 < playing r
+  start-first l = names-below (startOrder r) (playing r) start-names 0 l
+
+pub cycling-is :
+    (r : Run) (o : List ℕ) → o ≡ startOrder r →
+    record {
+      show = r .show;
+      counts = r .counts;
+      states = r .states;
+      order = o;
+      place = 0;
+      left = countAt r (getD o 0 0);
+      underway = r .underway;
+      started = true;
+    } ≡ running r
+unfolding running
+cycling-is r o e = rw e

@@ -1,0 +1,54 @@
+-- `slack` answers the least that a session has to spare. Assumes nothing.
+use Prim.Native.Nat.{_<_}
+use mathlib.Core.Path.{_≡_, sym, ap, subst, _∙_}
+use Rattle.spare.specs.declared.standing.Standing.{Standing}
+use Rattle.spare.specs.Standing.{slackIn}
+use mir.Syntax.{w64}
+use mir.Val.{toZ, ofZ}
+use native.Mathlib.Omega.{arith}
+use Rattle.run.proofs.Tests.{tested-sound, tested-damaged}
+use Rattle.spare.proofs.Standings.{standing-fit, slack-in}
+use Rattle.spare.proofs.Calls.{slack-damaged, slack-empty, slack-time}
+use borrow.Author.Needs.{needs}
+use Rattle.spare.proofs.slack.Tie as tie
+use Rattle.spare.proofs.slack.Statement.{statement}
+
+test-run-requires : tie.Need-test-run-requires
+test-run-requires c κs = search needs
+
+enum-told : tie.Need-enum-told
+enum-told c = search needs
+
+enum-told-2 : tie.Need-enum-told-2
+enum-told-2 c = search needs
+
+returns : tie.Need-returns
+returns c = slack-damaged _ (tested-damaged _ _ (c .before .before .test-run .ensures) (c .enum-told2 .given .1))
+
+returns-2 : tie.Need-returns-2
+returns-2 c = slack-empty _ (tested-sound _ _ (c .before .before .before .before .test-run .ensures) (c .before .before .enum-told .given .1)) (c .if1 .taken)
+
+survey-requires : tie.Need-survey-requires
+survey-requires c κs = (tested-sound _ _ (c .before .before .before .before .test-run .ensures) (c .before .before .enum-told .given .1))
+
+least-requires : tie.Need-least-requires
+least-requires c κs = (standing-fit _ (tested-sound _ _ (c .before .before .before .before .before .test-run .ensures) (c .before .before .before .enum-told .given .1)) _ (c .survey .ensures), subst (λ (t : Standing). 0 < t .playing) (sym (c .survey .ensures)) (let n = c .before .if1 .left in omega arith))
+
+returns-3 : tie.Need-returns-3
+returns-3 c =
+    let l : 0 < c .before .before .before .before .before .before .before .args .run .show .playing = (let n = c .before .before .if1 .left in omega arith) in
+    let b : toZ w64 (ofZ w64 (c .least .result)) ≡ c .least .result = search needs in
+    slack-time _ (tested-sound _ _ (c .before .before .before .before .before .before .test-run .ensures) (c .before .before .before .before .enum-told .given .1)) _ l (b ∙ c .least .ensures ∙ ap slackIn (c .before .survey .ensures) ∙ slack-in (c .before .before .before .before .before .before .before .args .run) l)
+
+pub slack-spec : {M : Type 1} → statement M
+slack-spec =
+    tie.close
+    (tie.spec
+    test-run-requires
+    enum-told
+    enum-told-2
+    returns
+    returns-2
+    survey-requires
+    least-requires
+    returns-3)
