@@ -248,8 +248,9 @@ fn drawn(asked: Asked, run: Run) -> Run {
     );
     let check = d.check;
     checked(check);
+    let state = d.state;
     let mut next = run;
-    next.states[index] = d.state;
+    next.states[index] = state;
     next
 }
 

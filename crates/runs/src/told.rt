@@ -35,11 +35,13 @@ pub(crate) fn refusal(why: Refusal) {
 // A time may be below zero.
 pub(crate) fn time(t: i64) {
     if t < 0 {
+        let below = (-1 - t) as u64;
         say(b" time -");
-        number((-1 - t) as u64 + 1);
+        number(below + 1);
     } else {
+        let from = t as u64;
         say(b" time ");
-        number(t as u64);
+        number(from);
     }
 }
 
