@@ -85,11 +85,12 @@ def farthest():
 # ---- the order, and slack about 0
 
 def ties():
-    """Each way in which three can stand to one another, and some of four."""
+    """Each way in which three can stand to one another, and some of four; the order before the start does not count."""
     three_ways = itertools.product((5000, 5001, 5002), repeat=3)
     four_ways = set(itertools.permutations((7000, 7001, 7001, 9000)))
     for show, ways in ((swift(0, 1, 2), three_ways), (swift(2, 0, 1, 2), sorted(four_ways))):
         put(show)
+        pokes(*((ORDER, playing() - 1 - k, k) for k in range(playing())))
         ask(SAVE)
         for by in ways:
             leads(*by)
@@ -173,15 +174,13 @@ def unused():
 # ---- sixteen
 
 def of_sixteen():
-    for way, rounds in (('behind', 1), ('equal', 2), ('drawn', 1)):
-        put(tight(light(16, 4)) if way == 'equal' else swift(*(i % 3 for i in range(16))))
-        if way == 'equal':
-            load()
-        else:
-            leads(*(40_000 - 9 * i if way == 'behind' else 40_000 + DICE.between(0, 5) for i in range(16)))
+    """Each less ahead than the one before it, all alike, some alike, and loaded until nobody has room."""
+    for by in ([40_000 - 9 * i for i in range(16)], [40_000] * 16, [40_000 + DICE.between(0, 5) for _ in range(16)], None):
+        put(tight(light(16, 4)) if by is None else swift(*(i % 3 for i in range(16))))
+        load() if by is None else leads(*by)
         stand()
         ask(START)
-        cycle(rounds)
+        cycle()
         ask(PASS, 0, 1000)
         stand()
 

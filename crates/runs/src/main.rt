@@ -1,5 +1,5 @@
 // Reads operations on a run from standard input and prints what each answers, with a checksum of the run after it (docs/RULES.md,
-// section 9). The input is numbers, the lowest byte first. A record has three of 8 bytes: operation, index, value.
+// sections 9 and 10). The input is numbers, the lowest byte first. A record has three of 8 bytes: operation, index, value.
 //   0 show     a show of 400 bytes follows, numbers of 4 bytes: A, N, the layout count, the session count, eight layouts and sixteen
 //              sessions of four numbers each; it is opened
 //   1 pass     value µs
@@ -8,10 +8,10 @@
 //   4 finish   after value µs
 //   5 save     the run is kept
 //   6 back     the kept run is the run again
-//   7 workahead of the session index
+//   7 ahead    the workahead of the session index
 //   8 slack
 //   9 start
-//   10 player  takes value bytes of the state of the session index, and of nothing else of the run; the state after it is put back
+//   10 player  value bytes of the session index, by its state alone, which is put back into the run
 //   16 to 37   a field of the run is overwritten by the value: poked.rt says which
 // The answers, a line each, which tests/run_answers.py computes on its own:
 //   RECORD ANSWER CHECKSUM
