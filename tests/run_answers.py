@@ -3,15 +3,15 @@
 
   tests/run_answers.py < crates/runs/stdin > crates/runs/stdout
 """
-import copy, struct, sys
+import copy, itertools, struct, sys
 from limits import LAYOUTS, SESSIONS, counts_ok, fault, within
 from show_answers import Refused, test_counts, test_limits
-from verdict_answers import holds, rows, smallest
+from verdict_answers import holds, rows, smallest, times
 
 RECORD, SHOW = 24, 400
 PUT_MOST, SPAN_MOST, MICRO = 2**40, 10**9, 10**6
 MODULUS = 2**31 - 1
-OPEN, PASS, TAKE, CHOOSE, FINISH, SAVE, BACK, DUMP = range(8)
+OPEN, PASS, TAKE, CHOOSE, FINISH, SAVE, BACK, WORKAHEAD, SLACK, START, PLAYER = range(11)
 COUNT, P, G, C = range(4)
 
 class Run:
@@ -36,6 +36,9 @@ class Run:
         """Its drive, the layouts that are used, the sessions that are used."""
         block, cylinder, laid, playing = self.head
         return (block, cylinder), self.layouts[:laid], self.sessions[:playing]
+
+    def counts(self):
+        return [self.states[i][COUNT] for i in range(self.playing())]
 
     def whole(self, place):
         return self.states[self.order[place]][COUNT]
@@ -88,7 +91,7 @@ def sound(run):
     if not counts_ok(*run.head[2:]) or fault(*run.show()) is not None:
         return False
     each = range(run.playing())
-    return (holds(run.show(), [run.states[i][COUNT] for i in each]) and all(state_sound(run, i) for i in each)
+    return (holds(run.show(), run.counts()) and all(state_sound(run, i) for i in each)
             and sorted(run.order[:len(each)]) == list(each) and cycle_sound(run))
 
 # ---- the calls; each changes the run that it is given and says what it answers, or is refused
@@ -147,7 +150,47 @@ def finish(run, _, d):
         run.left = run.whole(run.place)
     return 'ok'
 
-CALLS = {PASS: pass_time, TAKE: take, CHOOSE: choose, FINISH: finish}
+# ---- spare time, and the start
+
+def ahead(run, i):
+    """In µs; // rounds down, below zero too."""
+    rate, cushion, _, _ = run.sessions[i]
+    _, put, _, clock = run.states[i]
+    return ((put - cushion) * MICRO - clock) // rate
+
+def by_ahead(run):
+    """The sessions in increasing workahead, ties by lower number."""
+    return sorted(range(run.playing()), key=lambda i: (ahead(run, i), i))
+
+def spare(run):
+    spent, order = times(run.show(), run.counts()), by_ahead(run)
+    due = itertools.accumulate(spent[i] for i in order)
+    return min(ahead(run, i) - by for i, by in zip(order, due))
+
+def workahead(run, i, _):
+    if i >= run.playing():
+        raise Refused(9, 0)
+    return 'time %d' % ahead(run, i)
+
+def slack(run, *_):
+    if run.playing() == 0:
+        raise Refused(9, 0)
+    return 'time %d' % spare(run)
+
+def start(run, *_):
+    if run.started:
+        raise Refused(18, 0)
+    if run.under is not None:
+        raise Refused(13, 0)
+    if run.playing() == 0:
+        raise Refused(9, 0)
+    if spare(run) < 0:
+        raise Refused(15, 0)
+    run.order[:run.playing()] = by_ahead(run)
+    run.place, run.left, run.started = 0, run.whole(0), True
+    return 'ok'
+
+CALLS = {PASS: pass_time, TAKE: take, CHOOSE: choose, FINISH: finish, WORKAHEAD: workahead, SLACK: slack, START: start}
 
 def called(run, operation, index, value):
     """The answer and the run after it."""
@@ -158,6 +201,21 @@ def called(run, operation, index, value):
         return CALLS[operation](after, index, value), after
     except Refused as no:
         return 'refused %d %d' % no.args, run
+
+# ---- a player's take, of one session's state: nothing else of the run is looked at
+
+def player_take(run, i, n):
+    """The answer, and the run with the state after it."""
+    _, put, taken, _ = run.states[i]
+    after = copy.deepcopy(run)
+    if not state_sound(run, i):
+        return 'refused 19 0', after
+    if not run.started:
+        return 'refused 12 0', after
+    if n > put - taken:
+        return 'refused 10 0', after
+    after.states[i][G] += n
+    return 'ok', after
 
 # ---- a field that is overwritten
 
@@ -198,18 +256,6 @@ def checksum(run):
         total = (total * 31 + field) % MODULUS
     return total
 
-def dumped(run):
-    """The lines of a dump."""
-    def spaced(*numbers):
-        return ' '.join(map(str, numbers))
-    yield ' drive %s, used %s' % (spaced(*run.head[:2]), spaced(*run.head[2:]))
-    for i, row in enumerate(run.layouts):
-        yield ' layout %d: %s' % (i, spaced(*row))
-    for i, (session, state, named) in enumerate(zip(run.sessions, run.states, run.order)):
-        yield ' session %d: %s, count %d, state %s, order %d' % (i, spaced(*session), state[COUNT], spaced(*state[P:]), named)
-    under = 'nothing under way' if run.under is None else 'under way %d' % run.under
-    yield ' place %d, left %d, %s, started %d' % (run.place, run.left, under, run.started)
-
 # ---- the records
 
 class Desk:
@@ -233,7 +279,10 @@ class Desk:
             self.kept = self.run
         elif operation == BACK:
             self.run = self.kept
-        elif operation != DUMP:
+        elif operation == PLAYER and index < SESSIONS:
+            answer, self.run = player_take(self.run, index, value)
+            return answer
+        else:
             after = poked(self.run, operation, index, value)
             if after is None:
                 return 'unknown'
@@ -250,8 +299,6 @@ def answers(data):
         operation, index, value = struct.unpack_from('<3Q', data, at)
         said = desk.answer(operation, index, value) if operation != OPEN else desk.open(struct.unpack_from('<100I', data, at + RECORD))
         yield '%d %s %d' % (place, said, checksum(desk.run))
-        if operation == DUMP:
-            yield from dumped(desk.run)
         at, place = at + length, place + 1
 
 def main():

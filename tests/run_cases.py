@@ -8,11 +8,12 @@ What must come of them tests/run_answers.py says.
 import itertools, sys
 from dice import Dice
 from limits import LAYOUTS, SESSIONS
-from run_answers import BACK, CHOOSE, DUMP, FINISH, MICRO, PASS, PUT_MOST, SAVE, SPAN_MOST, TAKE
+from run_answers import BACK, CHOOSE, FINISH, MICRO, PASS, PUT_MOST, SAVE, SPAN_MOST, START, TAKE
 from run_damage import damaged, empty, every_order, fuzzed, sixteen, twice
 from run_records import (
     A, CLOCK, COUNT, DICE, FAR, LAID, LAYOUT, LEFT, LONGEST, N, NOTHING, ORDER, PLACE, PLAYING, PUT, RATE, READ, ROTATION, STARTED, TAKEN, THREE,
-    ask, at_limit, bad_four, drain, filled, four, held, light, load, playing, poke, pokes, put, show_of, some_call, tight)
+    ask, at_limit, bad_four, drain, filled, four, held, light, load, playing, poke, pokes, put, show_of, some_call, three, tight)
+from run_spare import SPARE
 from show_cases import BAD_LAYOUT, BAD_SESSION, PAST
 from verdict_cases import NONE, X, Z, alike, changed
 
@@ -21,18 +22,18 @@ from verdict_cases import NONE, X, Z, alike, changed
 def nothing():
     four()
     bad_four()
-    for operation in (SAVE, BACK, DUMP, CHOOSE):
+    three()
+    for operation in (SAVE, BACK, CHOOSE):
         ask(operation)
 
 def unknown():
     put(THREE)
-    for operation in (8, 15, 38, 2**32 + PASS, FAR):
+    for operation in (11, 15, 38, 2**32 + PASS, FAR):
         ask(operation, 0, 1)
     for field in (LONGEST, ROTATION, RATE, LAYOUT, COUNT, CLOCK, ORDER):
         places = LAYOUTS if field < RATE else SESSIONS
         for index in (places - 1, places, FAR):
             poke(field, 7, index)
-    ask(DUMP)
 
 def every_field():
     """Each field is overwritten and told back, at its largest."""
@@ -41,7 +42,6 @@ def every_field():
         for field in fields:
             poke(field, FAR, DICE.between(0, places - 1))
             poke(field, DICE.between(0, FAR), DICE.between(0, places - 1))
-    ask(DUMP)
     bad_four()
 
 # ---- opening
@@ -50,9 +50,8 @@ def accepted():
     for count in (0, 1, 2, 3, 8, 15, 16):
         for laid, rest in ((1, NONE), (8, (PAST,) * 4), (3, (9, 99, 0, 77))):
             put(light(count, laid), rest=rest)
+            three(count)
             four()
-            if laid == 3:
-                ask(DUMP)
     for show in (alike(X, 1), alike(X, 3), alike((28_000, 2000, 10_000, 5000), 2), alike(Z, 9, 1_484_801)):
         put(show)
         ask(CHOOSE)
@@ -75,7 +74,6 @@ def refused():
         ask(CHOOSE)
     for show in (alike(X, 1, 102_400), alike(Z, 9, 1_484_800), alike(Z, 10)):
         put(show, rest=(PAST,) * 4)
-        ask(DUMP)
     four()
     bad_four()
 
@@ -127,18 +125,17 @@ def cycles():
         load()
         ask(CHOOSE)
         ask(PASS, 0, 1000)
-        poke(STARTED, 1)
+        ask(START)
         for part in (1, 2, 3) if count < 8 else (2,):
             for i in range(playing()):
                 drain(i, held(i) // part)
             load()
-        ask(DUMP)
 
 def rounds():
     """Three on X, a block taken for each that comes: round after round, with no skip."""
     put(tight(alike(X, 3)))
     load()
-    poke(STARTED, 1)
+    ask(START)
     for i in range(3):
         ask(TAKE, i, 2 * 51_200)
     for _ in range(5 * 6):
@@ -155,10 +152,10 @@ def plays():
         put(show_of(dice, count, k % 3, (100, 400, 700)[k % 3]), rest=(k, 0, PAST, k))
         for _ in range(20 + 4 * count):
             some_call(dice)
-        poke(STARTED, 1)
+        if ask(START) != 'ok':
+            poke(STARTED, 1)
         for _ in range(260):
             some_call(dice)
-        ask(DUMP)
 
 # ---- skips
 
@@ -178,7 +175,8 @@ def but_one():
     """Sixteen, all full but one, or all."""
     put(tight(light(16, 4)))
     poke(STARTED, 1)
-    pokes(*((TAKEN, 1000 * i, i) for i in range(16)), *(filled(i) for i in range(16)))
+    pokes(*((field, 1000 * i, i) for i in range(16) for field in (PUT, TAKEN)))
+    pokes(*(filled(i) for i in range(16)))
     ask(SAVE)
     for place, i in itertools.product((0, 7, 15), range(16)):
         pokes((PLACE, place), filled(i, 0))
@@ -231,7 +229,7 @@ def larger_counts():
         put(alike(X, count, 51_200 * 7))
         pokes(*((COUNT, 4 + i % 2, i) for i in range(count)))
         load()
-        poke(STARTED, 1)
+        ask(START)
         for _ in range(3):
             for i in range(count):
                 drain(i, held(i))
@@ -305,7 +303,7 @@ def long_clocks():
             ask(BACK)
 
 PARTS = (nothing, unknown, every_field, accepted, refused, faulty, kept, in_order, cycles, rounds, plays, skips, but_one, amid, orders, larger_counts, put_limit,
-         full_at_limit, up_to_limit, clocks, long_clocks, damaged, sixteen, every_order, twice, empty, fuzzed)
+         full_at_limit, up_to_limit, clocks, long_clocks, damaged, sixteen, every_order, twice, empty, fuzzed, *SPARE)
 
 def main():
     for part in PARTS:

@@ -2,11 +2,11 @@
 import itertools
 from dice import Dice
 from limits import LAYOUTS, SESSIONS
-from run_answers import BACK, CHOOSE, DUMP, FINISH, MICRO, PASS, PUT_MOST, SAVE, SPAN_MOST, TAKE
+from run_answers import BACK, CHOOSE, FINISH, MICRO, PASS, PUT_MOST, SAVE, SPAN_MOST, START, TAKE
 from run_records import (
     A, BUFFER, CLOCK, COUNT, CUSHION, DESK, DICE, FAR, LAID, LAYOUT, LEFT, LONGEST, N, NOTHING, ORDER, PLACE, PLAYING, PUT, RATE, READ, ROTATION,
-    STARTED, TAKEN, THREE, TIME, TRACK, ask, at_limit, bad_four, buffer_of, filled, four, held, light, load, playing, poke, pokes, put, show_of,
-    some_call, state, tight, tried)
+    STARTED, TAKEN, THREE, TIME, TRACK, TURNS, ask, at_limit, bad_four, buffer_of, filled, four, held, light, load, playing, poke, pokes, put, show_of,
+    some_call, state, three, tight, tried)
 from show_cases import PAST
 from verdict_cases import NONE, X, Z
 
@@ -141,6 +141,7 @@ def twice():
     for change in ((LEFT, 0), (PLACE, 3), (COUNT, 0), (TAKEN, 1), (READ, 1), (A, 0), (LAID, 0), (RATE, 0), (ORDER, 1)):
         poke(*change)
         bad_four()
+        three(SESSIONS)
         ask(BACK)
 
 def empty():
@@ -150,13 +151,13 @@ def empty():
             poke(STARTED, started)
             four()
             bad_four()
+            three()
             ask(FINISH, 0, SPAN_MOST)
             ask(SAVE)
             for field, value in ((PLACE, 1), (PLACE, FAR), (LEFT, 1), (LEFT, PAST), (READ, 0), (READ, FAR), (NOTHING, 0), (PLAYING, 1), (PLAYING, 17),
                                  (LAID, 0), (LAID, 9), (A, 513), (N, 0), (TIME, 0), (TRACK, 10**6), (COUNT, 5), (PUT, FAR), (TAKEN, 1), (CLOCK, 1),
                                  (ORDER, 3), (RATE, 7)):
                 tried((field, value))
-        ask(DUMP)
 
 # ---- damage at random
 
@@ -179,12 +180,13 @@ def fuzzed():
     for count in (1, 2, 3, 4, 9, 16):
         put(show_of(dice, count, 2))
         load()
-        poke(STARTED, 1)
+        ask(START)
         for _ in range(20 + count):
             some_call(dice)
         for _ in range(40):
             ask(SAVE)
             pokes(*(some_poke(dice) for _ in range(dice.between(1, 2))))
             four(dice.between(0, count), dice.between(0, 1000), dice.between(0, 9000))
+            ask(next(TURNS), dice.between(0, count))
             ask(BACK)
             some_call(dice)

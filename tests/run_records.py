@@ -3,7 +3,7 @@ record, so that the next one can go by the run."""
 import itertools, struct, sys
 from dice import Dice
 from limits import LAYOUTS, SESSIONS
-from run_answers import BACK, CHOOSE, FINISH, G, OPEN, P, PASS, PUT_MOST, SPAN_MOST, TAKE, Desk
+from run_answers import BACK, CHOOSE, FINISH, G, OPEN, P, PASS, PUT_MOST, SLACK, SPAN_MOST, START, TAKE, WORKAHEAD, Desk
 from verdict_answers import needed, smallest
 from verdict_cases import NONE, X, alike, buffered
 
@@ -12,6 +12,7 @@ from verdict_cases import NONE, X, alike, buffered
 FAR = 2**64 - 1
 DICE = Dice(1991)
 DESK = Desk()
+TURNS = itertools.cycle((WORKAHEAD, SLACK, START))
 
 # ---- records
 
@@ -38,7 +39,7 @@ def pokes(*changes):
         poke(*change)
 
 def four(session=0, d=1, n=0):
-    """Each call once."""
+    """Each call once that plays."""
     ask(PASS, 0, d)
     ask(TAKE, session, n)
     ask(CHOOSE)
@@ -48,10 +49,17 @@ def bad_four():
     """The calls with what each is refused for by itself."""
     four(SESSIONS, SPAN_MOST + 1, FAR)
 
+def three(session=0):
+    """Each call once that is about spare time."""
+    ask(WORKAHEAD, session)
+    ask(SLACK)
+    ask(START)
+
 def tried(*changes):
-    """The kept run with fields changed, under each call; then as it was."""
+    """The kept run with fields changed, under each call that plays and one of the others by turns; then as it was."""
     pokes(*changes)
     four()
+    ask(next(TURNS))
     ask(BACK)
 
 # ---- what is in the run
@@ -136,8 +144,10 @@ def some_time(dice):
     return dice.between(least, most)
 
 def some_call(dice):
-    kind = dice.between(0, 9)
-    if kind < 2:
+    kind = dice.between(0, 10)
+    if kind == 10:
+        ask((WORKAHEAD, SLACK, START)[dice.between(0, 2)], dice.between(0, playing()))
+    elif kind < 2:
         some_take(dice)
     elif kind == 2:
         ask(PASS, 0, some_time(dice))

@@ -1,5 +1,5 @@
 // Reads operations on a run from standard input and prints what each answers, with a checksum of the run after it (docs/RULES.md,
-// section 9). The input is numbers, the lowest byte first. A record has three of 8 bytes: operation, index, value.
+// sections 9 and 10). The input is numbers, the lowest byte first. A record has three of 8 bytes: operation, index, value.
 //   0 show     a show of 400 bytes follows, numbers of 4 bytes: A, N, the layout count, the session count, eight layouts and sixteen
 //              sessions of four numbers each; it is opened
 //   1 pass     value µs
@@ -8,14 +8,17 @@
 //   4 finish   after value µs
 //   5 save     the run is kept
 //   6 back     the kept run is the run again
-//   7 dump     the whole run is printed
+//   7 ahead    the workahead of the session index
+//   8 slack
+//   9 start
+//   10 player  value bytes of the session index, by its state alone, which is put back into the run
 //   16 to 37   a field of the run is overwritten by the value: poked.rt says which
 // The answers, a line each, which tests/run_answers.py computes on its own:
 //   RECORD ANSWER CHECKSUM
 //   short, for a last record that is cut short
-// where ANSWER is `ok`, `idle`, `read SESSION`, `refused NUMBER PLACE`, or `unknown` for an operation or an index that there is not.
+// where ANSWER is `ok`, `idle`, `read SESSION`, `time TIME`, `refused NUMBER PLACE`, or `unknown` for an operation or an index that there is not.
 // The checksum is over every field, those of the show and those in unused places too, from h = 0 on: (31 h + field) mod 2,147,483,647.
-// After the line of a dump come the fields, in that order. Both runs are zeros at first.
+// Both runs are zeros at first.
 mod given;
 mod poked;
 mod told;
@@ -30,10 +33,10 @@ use crate::given::numbers;
 use crate::given::show_of;
 use crate::poked::poke;
 use crate::told::checksum;
-use crate::told::dump;
 use crate::told::number;
 use crate::told::refusal;
 use crate::told::say;
+use crate::told::time;
 use drive::Show;
 use drive::refusal::Check;
 use libc::STDIN_FILENO;
@@ -41,6 +44,8 @@ use playback::Moved;
 use run::Run;
 use scheduler::Choice;
 use scheduler::Chosen;
+use spare::Spare;
+use spare::Spared;
 
 // The run that the calls are on, and the kept one.
 struct Desk {
@@ -137,9 +142,6 @@ fn answer(asked: Asked, place: usize, desk: Desk) -> Desk {
     let run = next.run;
     checksum(run);
     say(b"\n");
-    if asked.operation == 7 {
-        dump(run);
-    }
     next
 }
 
@@ -172,10 +174,10 @@ fn call(asked: Asked, run: Run) -> Run {
         2 => moved(playback::take(run, asked.index, asked.value)),
         3 => chosen(scheduler::choose(run)),
         4 => moved(playback::finish(run, asked.value)),
-        7 => {
-            say(b" ok");
-            run
-        }
+        7 => spared(spare::workahead(run, asked.index)),
+        8 => spared(spare::slack(run)),
+        9 => moved(spare::start(run)),
+        10 => drawn(asked, run),
         _ => overwritten(asked, run),
     }
 }
@@ -216,6 +218,40 @@ fn chosen(c: Chosen) -> Run {
         }
     }
     c.run
+}
+
+fn spared(s: Spared) -> Run {
+    let spare = s.spare;
+    match spare {
+        Spare::Time(t) => {
+            time(t);
+        }
+        Spare::Refused(why) => {
+            refusal(why);
+        }
+    }
+    s.run
+}
+
+fn drawn(asked: Asked, run: Run) -> Run {
+    let index = asked.index;
+    if 16 <= index {
+        say(b" unknown");
+        return run;
+    }
+    let show = run.show;
+    let d = player::take_lent(
+        run.states[index],
+        show.sessions[index],
+        run.started,
+        asked.value,
+    );
+    let check = d.check;
+    checked(check);
+    let state = d.state;
+    let mut next = run;
+    next.states[index] = state;
+    next
 }
 
 fn overwritten(asked: Asked, run: Run) -> Run {

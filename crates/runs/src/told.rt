@@ -1,4 +1,4 @@
-// What is printed: numbers, refusals, the checksum of a run, and its fields.
+// What is printed: numbers, times, refusals, and the checksum of a run.
 ghost use Prim.Native.Nat.{_<_};
 use drive::Layout;
 use drive::Session;
@@ -32,7 +32,20 @@ pub(crate) fn refusal(why: Refusal) {
     spaced(told.place as u64);
 }
 
-// ---- the checksum, over the fields in the order in which a dump has them
+// A time may be below zero.
+pub(crate) fn time(t: i64) {
+    if t < 0 {
+        let below = (-1 - t) as u64;
+        say(b" time -");
+        number(below + 1);
+    } else {
+        let from = t as u64;
+        say(b" time ");
+        number(from);
+    }
+}
+
+// ---- the checksum, over every field: the drive, the counts, the layouts, the sessions with what the run has of each, the cycle
 
 pub(crate) fn checksum(run: Run) {
     let show = run.show;
@@ -125,95 +138,4 @@ fn truth(b: bool) -> u64 {
         return 1;
     }
     0
-}
-
-// ---- the dump
-
-fn named(text: &[u8], n: u64) {
-    say(text);
-    number(n);
-}
-
-pub(crate) fn dump(run: Run) {
-    let show = run.show;
-    let layouts = show.layouts;
-    named(b" drive ", show.drive.block as u64);
-    spaced(show.drive.cylinder as u64);
-    named(b", used ", show.laid as u64);
-    spaced(show.playing as u64);
-    say(b"\n");
-    dump_layouts(layouts);
-    dump_sessions(run);
-    dump_cycle(run);
-}
-
-fn dump_layouts(layouts: [Layout; 8]) {
-    let mut i = 0;
-    while i < 8 {
-        dump_layout(i, layouts[i]);
-        i += 1;
-    }
-}
-
-fn dump_layout(i: usize, layout: Layout) {
-    named(b" layout ", i as u64);
-    named(b": ", layout.longest as u64);
-    spaced(layout.track as u64);
-    spaced(layout.time as u64);
-    spaced(layout.rotation as u64);
-    say(b"\n");
-}
-
-fn dump_sessions(run: Run) {
-    let mut i = 0;
-    while i < 16 {
-        dump_session(run, i);
-        i += 1;
-    }
-}
-
-fn dump_session(run: Run, i: usize)
-    requires { ⌜ i < 16 ⌝ }
-{
-    let show = run.show;
-    let session = show.sessions[i];
-    let state = run.states[i];
-    let count = wide(run.counts[i]);
-    let seat = wide(run.order[i]);
-    dump_clip(i, session);
-    named(b", count ", count);
-    dump_state(state);
-    named(b", order ", seat);
-    say(b"\n");
-}
-
-fn dump_clip(i: usize, session: Session) {
-    named(b" session ", i as u64);
-    named(b": ", session.rate as u64);
-    spaced(session.cushion as u64);
-    spaced(session.buffer as u64);
-    spaced(session.layout as u64);
-}
-
-fn dump_state(state: State) {
-    named(b", state ", state.put);
-    spaced(state.taken);
-    spaced(state.clock);
-}
-
-fn dump_cycle(run: Run) {
-    let underway = run.underway;
-    named(b" place ", run.place as u64);
-    named(b", left ", run.left as u64);
-    dump_underway(underway);
-    named(b", started ", truth(run.started));
-    say(b"\n");
-}
-
-fn dump_underway(underway: Underway) {
-    let Underway::Read(session) = underway else {
-        say(b", nothing under way");
-        return;
-    };
-    named(b", under way ", session as u64);
 }
