@@ -30,7 +30,7 @@ passOf r d = moved (passCheck r d) r (passed r d)
 
 -- ---- take
 
--- 19, 9, 12, 10: of a sound run's session a player is told 12 and 10
+-- 19, 9, 12, 10: the last two as the player's own take tests them
 unfoldable pub takeCheck : Run → ℕ → ℕ → Check
 takeCheck r i n = first (soundCheck r) (first (sessionCheck r i) (first (earlyCheck (r .started)) (heldCheck (stateAt r i) n)))
 

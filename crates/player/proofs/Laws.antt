@@ -75,7 +75,8 @@ module _ (s : State) (x : Session) (started : Bool) (n : ℕ) where
   pub granted-sound : drawnOf s x started n .check ≡ Within → StateSound true x (drawnOf s x started n .state)
   granted-sound e =
       let g = grants (sym take-answers ∙ e) in
-      subst (StateSound true x) (sym (granted-draws e)) (subst (λ (b : Bool). StateSound b x (drawn n s)) (g .started) (drawn-sound (g .sound) n (g .started) (g .held)))
+      let h = drawn-sound (g .sound) n (g .started) (g .held) in
+      subst (StateSound true x) (sym (granted-draws e)) (subst (λ (b : Bool). StateSound b x (drawn n s)) (g .started) h)
 
   -- refused, the state is the one that was given
   pub refused-back : (w : Refusal) → drawnOf s x started n .check ≡ Refused w → drawnOf s x started n .state ≡ s

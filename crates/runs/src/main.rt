@@ -40,7 +40,7 @@ use crate::told::time;
 use drive::Show;
 use drive::refusal::Check;
 use libc::STDIN_FILENO;
-use playback::Moved;
+use run::Moved;
 use run::Run;
 use scheduler::Choice;
 use scheduler::Chosen;
