@@ -21,7 +21,6 @@ use Rattle.run.proofs.Tests.{damaged-first, sound-then}
 use Rattle.player.specs.declared.Drawn.{Drawn}
 use Rattle.player.specs.Answers.{drawnOf}
 use Rattle.player.proofs.Takes.{take-sound}
-use Rattle.run.specs.Answers.{moved}
 use Rattle.run.proofs.Answered.{granted, refused, moved-refused, moved-granted}
 use Rattle.player.proofs.Laws.{take-answers, granted-draws}
 use Rattle.run.specs.declared.Moved.{Moved}

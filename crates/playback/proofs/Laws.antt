@@ -7,7 +7,6 @@ use native.Mathlib.Decide.{decLe, decLt}
 use native.Mathlib.Omega.{arith}
 use Rattle.drive.specs.declared.refusal.Refusal.{Refusal}
 use Rattle.drive.specs.declared.refusal.Refusal.the-variants as refusal
-use Rattle.drive.specs.declared.refusal.Check.{Check}
 use Rattle.drive.specs.declared.refusal.Check.the-variants.{Within, Refused}
 use Rattle.drive.specs.Checks.{first}
 use Rattle.drive.proofs.Checks.{within-refused, unless-within, first-left, first-right}
@@ -18,7 +17,7 @@ use Rattle.run.specs.Run.{playing, stateAt}
 use Rattle.run.specs.Sound.{SoundRun}
 use Rattle.run.specs.Decisions.{sound?, true?, soundCheck}
 use Rattle.run.specs.Steps.{passed, taken, landed}
-use Rattle.run.specs.Answers.{moved, sessionCheck}
+use Rattle.run.specs.Answers.{sessionCheck}
 use Rattle.run.specs.Laws.{Kept}
 use Rattle.run.proofs.Answered.{moved-either, moved-back}
 use Rattle.run.proofs.Steps.{passed-sound, taken-sound, landed-sound, read-below}

@@ -1,25 +1,20 @@
 -- Spare time: lighter runs, by the laws of lighter runs; and two opened runs that show the proviso is needed. Assumes nothing.
-use Prim.Native.Nat.{ℕ, zero, suc, _≤_, _<_}
-use mathlib.Core.Path.{_≡_, refl, sym, subst}
-use mathlib.Core.List.{[], _∷_}
-use native.Mathlib.Omega.{arith}
-use lib.IntN.{ℤ, negsuc}
+use Prim.Native.Nat.{ℕ, _≤_, _<_}
+use mathlib.Core.Path.{_≡_, sym, subst}
+use lib.IntN.{ℤ}
 use lib.Signed.{_≤ℤ_}
-use Rattle.drive.specs.declared.Session.{Session}
 use Rattle.drive.specs.declared.Show.{Show}
 use Rattle.theory.specs.Counts.{Smallest}
-use Rattle.theory.specs.Shows.{loadOf, Easier, Eased, eased}
+use Rattle.theory.specs.Shows.{loadOf}
 use Rattle.verdict.specs.Answers.{setOf}
 use Rattle.run.specs.declared.Run.{Run}
 use Rattle.run.specs.Run.{playing}
 use Rattle.spare.specs.declared.Spare.the-variants.{Time}
 use Rattle.spare.specs.Answers.{workaheadOf, slackOf}
 use Rattle.spare.specs.Laws.{Cushioned, Lightly}
-use Rattle.spare.specs.Times.{aheadAt, slackTime}
 use Rattle.spare.proofs.Laws.{workahead-told, slack-told}
 use Rattle.spare.proofs.Lighter.{ahead-lighter, spare-lighter}
 use Rattle.promises.specs.Runs.{RunOf}
-use Rattle.promises.specs.Lighter.{Worse}
 use Rattle.promises.specs.Lighter as specs
 use Rattle.promises.proofs.Runs.{always}
 use Rattle.promises.proofs.Worked.{worse}

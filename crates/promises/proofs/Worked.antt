@@ -1,20 +1,16 @@
 -- Worked runs: p8 to p10, and two opened runs of which the lighter has less to spare. Each is computed. Assumes nothing.
 use Prim.Native.Nat.{ℕ, zero, suc, _≤_, _<_}
-use mathlib.Core.Path.{_≡_, refl, sym, ap, _∙_}
+use mathlib.Core.Path.{refl, sym, ap}
 use mathlib.Core.Bool.{Bool, true, false}
-use mathlib.Core.List.{List, [], _∷_}
+use mathlib.Core.List.{[], _∷_}
 use mathlib.Core.Logic.{Dec·and}
 use native.Mathlib.Decide.{decLe, decLt, ℕ-discrete}
 use native.Mathlib.Omega.{arith}
-use native.Mathlib.Nat.{le-refl}
 use lib.Dec.{T}
 use lib.IntN.{pos, negsuc}
-use lib.ListN.{replicate}
 use Rattle.drive.specs.declared.Session.{Session}
-use Rattle.drive.specs.declared.Show.{Show}
-use Rattle.drive.specs.declared.refusal.Check.the-variants.{Within}
 use Rattle.drive.specs.Decisions.{between?, counts?, drive?, layout?, session?}
-use Rattle.drive.specs.Lists.{listed, padded}
+use Rattle.drive.specs.Lists.{listed}
 use Rattle.drive.specs.Bound.{worstTime, edges, ceil}
 use Rattle.drive.specs.Worst.{costOf}
 use Rattle.theory.specs.Sum.{sumTo}

@@ -1,10 +1,10 @@
 -- Workaheads: the numbers on the way to one fit 64 bits, and it is small. Assumes nothing.
-use Prim.Native.Nat.{ℕ, suc, _+_, _-_, _*_, _^_, _≤_, _<_}
-use mathlib.Core.Path.{_≡_, sym, ap, _∙_}
+use Prim.Native.Nat.{ℕ, _+_, _-_, _*_, _^_, _≤_, _<_}
+use mathlib.Core.Path.{_≡_, ap, _∙_}
 use native.Mathlib.Decide.{decLt}
 use native.Mathlib.Nat.{lt-of-le-of-lt}
 use native.Mathlib.Omega.{arith}
-use lib.IntN.{ℤ, pos, negsuc, subℕ, _-ℤ_, _*ℤ_}
+use lib.IntN.{ℤ, pos, subℕ, _-ℤ_, _*ℤ_}
 use lib.Signed.{mag}
 use mir.Syntax.{w64}
 use mir.Val.{SFits}
@@ -19,10 +19,15 @@ use Rattle.spare.specs.Times.{aheadOf}
 use Rattle.spare.proofs.Truncated.{floor-most}
 
 -- (P - Y) x 1,000,000 - C as one difference
-pub ahead-is : (P Y C : ℕ) → (pos P -ℤ pos Y) *ℤ pos 1000000 -ℤ pos C ≡ subℕ (P * 1000000) (Y * 1000000 + C)
+ahead-is : (P Y C : ℕ) → (pos P -ℤ pos Y) *ℤ pos 1000000 -ℤ pos C ≡ subℕ (P * 1000000) (Y * 1000000 + C)
 ahead-is P Y C =
     ap (λ (z : ℤ). z *ℤ pos 1000000 -ℤ pos C) (sub-pos P Y) ∙ ap (λ (z : ℤ). z -ℤ pos C) (sub-times P Y 1000000)
     ∙ sub-less (P * 1000000) (Y * 1000000) C
+
+-- and so workahead
+pub ahead-floors :
+    (x : Session) (s : State) → aheadOf x s ≡ floorZ (subℕ (s .put * 1000000) (x .cushion * 1000000 + s .clock)) (x .rate)
+ahead-floors x s = ap (λ (z : ℤ). floorZ z (x .rate)) (ahead-is (s .put) (x .cushion) (s .clock))
 
 -- ---- what fits
 
@@ -51,8 +56,8 @@ ahead-fits P Y C p y c =
 pub ahead-small :
     (x : Session) (s : State) → s .put ≤ putMost → x .cushion < 2 ^ 32 → s .clock ≤ putMost * 1000000 → mag (aheadOf x s) < 2 ^ 62
 ahead-small x s p y c =
-    lt-of-le-of-lt (floor-most _ (x .rate))
-    (rw (ahead-is (s .put) (x .cushion) (s .clock))
+    rw (ahead-floors x s)
+    (lt-of-le-of-lt (floor-most _ (x .rate))
     (sub-most (s .put * 1000000) (x .cushion * 1000000 + s .clock) (2 ^ 62) (omega arith) (omega arith)))
 
 -- ---- of a sound run

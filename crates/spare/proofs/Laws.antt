@@ -1,13 +1,12 @@
 -- Every call, granted or refused: workahead and slack hand the run back, and a start makes a sound run. Assumes nothing.
 use Prim.Native.Nat.{ℕ, _+_, _*_, _≤_, _<_}
-use mathlib.Core.Path.{_≡_, refl, sym, ap, subst, _∙_}
+use mathlib.Core.Path.{_≡_, refl, sym, ap, _∙_}
 use mathlib.Core.Bool.{false}
-use mathlib.Core.Logic.{if-neg}
 use native.Mathlib.Decide.{decLt}
 use native.Mathlib.Nat.{le-refl, mul-comm}
 use native.Mathlib.Omega.{arith}
 use lib.IntN.{ℤ, pos}
-use lib.ListN.{length, getD}
+use lib.ListN.{length}
 use lib.Signed.{_≤ℤ_, clashℤ}
 use Rattle.drive.specs.declared.refusal.Refusal.{Refusal}
 use Rattle.drive.specs.declared.refusal.Refusal.the-variants as refusal
@@ -16,11 +15,9 @@ use Rattle.drive.specs.declared.refusal.Check.the-variants.{Within, Refused}
 use Rattle.drive.specs.Checks.{first}
 use Rattle.drive.proofs.Checks.{within-refused, unless-within, first-left, first-right}
 use Rattle.theory.specs.Sum.{sumTo}
-use Rattle.theory.specs.Spare.{slackBy, less?}
-use Rattle.theory.specs.Shows.{loadOf}
+use Rattle.theory.specs.Spare.{slackBy}
 use Rattle.theory.proofs.Floor.{floor-from}
 use Rattle.theory.proofs.Spare.{slack-enough, claim-nine, rank-below}
-use Rattle.verdict.specs.Answers.{setOf}
 use Rattle.run.specs.declared.Underway.the-variants as underway
 use Rattle.run.specs.declared.Run.{Run}
 use Rattle.run.specs.Run.{playing, stateAt, clipAt}
@@ -34,10 +31,10 @@ use Rattle.run.proofs.Tests.{free-nothing}
 use Rattle.run.specs.declared.Moved.{Moved}
 use Rattle.spare.specs.declared.Spare.the-variants as spare
 use Rattle.run.proofs.Answered.{moved-either, moved-back}
-use Rattle.spare.specs.Times.{aheadAt, timeAt, slackTime, placeAt, startOrder, running}
+use Rattle.spare.specs.Times.{aheadAt, timeAt, slackTime, placeAt, running}
 use Rattle.spare.specs.Answers.{spared, workaheadOf, someCheck, slackOf, onceCheck, slackCheck, startCheck, startOf}
 use Rattle.spare.specs.Laws.{Started}
-use Rattle.spare.proofs.Aheads.{ahead-is, counting}
+use Rattle.spare.proofs.Aheads.{ahead-floors, counting}
 use Rattle.spare.proofs.Orders.{named-length, named-above}
 use Rattle.spare.proofs.Calls.{start-names, start-first, start-begins, begin-granted}
 
@@ -151,7 +148,7 @@ module _ (r : Run) where
         let L = sumTo (timeAt r) (playing r) in
         let h : clipAt r i .rate * L + (Y * 1000000 + C) < P * 1000000 = ahead i m in
         let g : L * clipAt r i .rate + (Y * 1000000 + C) ≤ P * 1000000 = omega (arith, mul-comm (clipAt r i .rate) L) in
-        rw (ahead-is P Y C) (floor-from L (P * 1000000) (Y * 1000000 + C) (clipAt r i .rate) (counting r s i m .rate) g)
+        rw (ahead-floors (clipAt r i) (stateAt r i)) (floor-from L (P * 1000000) (Y * 1000000 + C) (clipAt r i .rate) (counting r s i m .rate) g)
 
     pub far-slack : pos 0 ≤ℤ slackTime r
     far-slack = slack-enough _ (aheadAt r) (timeAt r) (playing r) l far

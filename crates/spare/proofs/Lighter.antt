@@ -1,10 +1,9 @@
 -- Demand 3, the spare time: a lighter run whose sessions are not behind their cushions has no less to spare. Assumes nothing.
 use Prim.Native.Nat.{ℕ, _+_, _*_, _≤_, _<_}
-use mathlib.Core.Path.{_≡_, sym, subst}
+use mathlib.Core.Path.{subst}
 use native.Mathlib.Omega.{arith}
 use lib.IntN.{ℤ}
 use lib.Signed.{_≤ℤ_}
-use Rattle.theory.specs.Floor.{floorZ}
 use Rattle.theory.specs.Lighter.{Lighter}
 use Rattle.theory.specs.Shows.{loadOf}
 use Rattle.theory.proofs.Floor.{floor-grows}
@@ -17,7 +16,7 @@ use Rattle.run.specs.declared.Run.{Run}
 use Rattle.run.specs.Run.{playing, clipAt, stateAt}
 use Rattle.spare.specs.Times.{aheadOf, aheadAt, timeAt, slackTime}
 use Rattle.spare.specs.Laws.{Cushioned, Lightly}
-use Rattle.spare.proofs.Aheads.{ahead-is, counting}
+use Rattle.spare.proofs.Aheads.{ahead-floors, counting}
 
 module _ (a b : Run) (e : ℕ → ℕ) (h : Lightly a b e) where
   loads : Lighter (loadOf (a .show)) (loadOf (b .show)) e
@@ -29,8 +28,8 @@ module _ (a b : Run) (e : ℕ → ℕ) (h : Lightly a b e) where
       let P = stateAt a i .put * 1000000 in
       let Y = clipAt a i .cushion * 1000000 + stateAt a i .clock in
       let Z = clipAt b (e i) .cushion * 1000000 + stateAt a i .clock in
-      let x = ahead-is (stateAt a i .put) (clipAt a i .cushion) (stateAt a i .clock) in
-      let y = ahead-is (stateAt a i .put) (clipAt b (e i) .cushion) (stateAt a i .clock) in
+      let x = ahead-floors (clipAt a i) (stateAt a i) in
+      let y = ahead-floors (clipAt b (e i)) (stateAt a i) in
       let k = loads .stream i l .cushion in
       let g : P + Y ≤ P + Z = omega arith in
       subst (λ (s : State). aheadOf (clipAt b (e i)) s ≤ℤ aheadAt a i) (h .states i l)

@@ -1,11 +1,10 @@
 -- How the sessions of a sound run stand: times and workaheads are small, and the least to spare is the slack. Assumes nothing.
 use Prim.Native.Nat.{ℕ, suc, _+_, _-_, _*_, _^_, _≤_, _<_}
-use mathlib.Core.Path.{_≡_, refl, sym, ap, subst, _∙_}
+use mathlib.Core.Path.{_≡_, sym, ap, subst, _∙_}
 use mathlib.Core.List.{List}
 use native.Mathlib.Decide.{decLe}
 use native.Mathlib.Omega.{arith}
 use native.Mathlib.Nat.{le-of-lt, le-trans, mul-le-mul-right}
-use lib.Dec.{lit≤}
 use lib.IntN.{ℤ, pos, negsuc, _-ℤ_}
 use lib.Signed.{mag}
 use mir.Syntax.{w64}
@@ -14,8 +13,8 @@ use Rattle.drive.specs.Bound.{worstMost}
 use Rattle.drive.proofs.Bound.{worst-capped}
 use Rattle.drive.proofs.Costs.{cost-limited}
 use Rattle.drive.proofs.Lists.{filled-at}
-use Rattle.theory.specs.Sum.{sumTo, sumWhere}
-use Rattle.theory.specs.Spare.{rank, loadBy, slackBy}
+use Rattle.theory.specs.Sum.{sumWhere}
+use Rattle.theory.specs.Spare.{rank}
 use Rattle.theory.specs.Shows.{loadOf}
 use Rattle.theory.proofs.Integers.{sub-pos, sub-less, from-negsuc}
 use Rattle.theory.proofs.Shows.{feasible-few}

@@ -1,5 +1,5 @@
 -- What each call answers: docs/RULES.md, section 10.
-use Prim.Native.Nat.{ℕ, _<_}
+use Prim.Native.Nat.{ℕ}
 use mathlib.Core.Logic.{ite}
 use native.Mathlib.Decide.{decLt}
 use lib.IntN.{ℤ, pos}

@@ -5,7 +5,6 @@ use Rattle.drive.proofs.Lists.{unmapped}
 use Rattle.run.proofs.Tests.{tested-sound, tested-damaged}
 use Rattle.playback.proofs.Calls.{finish-damaged, finish-long, finish-nothing, finish-granted, passed-reads}
 use borrow.Author.Needs.{needs}
-use borrow.Author.Needs.{needs}
 use Rattle.playback.proofs.finish.Statement.{statement}
 use Rattle.playback.proofs.finish.Tie as tie
 

@@ -2,7 +2,6 @@
 use Rattle.run.proofs.Tests.{tested-sound, tested-damaged}
 use Rattle.playback.proofs.Calls.{pass-damaged, pass-long, pass-granted}
 use borrow.Author.Needs.{needs}
-use borrow.Author.Needs.{needs}
 use Rattle.playback.proofs.pass.Statement.{statement}
 use Rattle.playback.proofs.pass.Tie as tie
 

@@ -2,7 +2,6 @@
 use native.Mathlib.Omega.{arith}
 use Rattle.playback.proofs.Clocks.{moves-few, ticks-free, ticks-caught}
 use borrow.Author.Needs.{needs}
-use borrow.Author.Needs.{needs}
 use Rattle.playback.proofs.tick.Statement.{statement}
 use Rattle.playback.proofs.tick.Tie as tie
 

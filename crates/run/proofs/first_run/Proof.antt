@@ -1,7 +1,6 @@
 -- `first_run` is the run that an accepted show begins with. Assumes nothing.
 use Rattle.run.specs.Opening.{firstRun}
 use borrow.Author.Needs.{needs}
-use borrow.Author.Needs.{needs}
 use Rattle.run.proofs.first_run.Statement.{statement}
 use Rattle.run.proofs.first_run.Tie as tie
 

@@ -2,7 +2,6 @@
 use native.Mathlib.Omega.{arith}
 use Rattle.run.specs.Opening.{noRun}
 use borrow.Author.Needs.{needs}
-use borrow.Author.Needs.{needs}
 use Rattle.run.proofs.no_run.Statement.{statement}
 use Rattle.run.proofs.no_run.Tie as tie
 

@@ -1,7 +1,6 @@
 -- `open` answers by what is decided. Assumes nothing.
 use Rattle.run.proofs.Opening.{open-refused, open-granted, open-few}
 use borrow.Author.Needs.{needs}
-use borrow.Author.Needs.{needs}
 use Rattle.run.proofs.open.Statement.{statement}
 use Rattle.run.proofs.open.Tie as tie
 

@@ -6,7 +6,6 @@ use Rattle.run.proofs.Seats.{sound-seated}
 use Rattle.scheduler.specs.Answers.{arrived}
 use Rattle.scheduler.proofs.Calls.{choose-damaged, choose-busy, choose-empty, choose-idle, choose-next}
 use borrow.Author.Needs.{needs}
-use borrow.Author.Needs.{needs}
 use Rattle.scheduler.proofs.choose.Statement.{statement}
 use Rattle.scheduler.proofs.choose.Tie as tie
 

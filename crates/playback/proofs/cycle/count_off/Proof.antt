@@ -4,7 +4,6 @@ use native.Mathlib.Omega.{arith}
 use Rattle.run.proofs.Seats.{onward-few, ahead-few}
 use Rattle.playback.proofs.Cycles.{counts-fewer, counts-on}
 use borrow.Author.Needs.{needs}
-use borrow.Author.Needs.{needs}
 use Rattle.playback.proofs.cycle.count_off.Statement.{statement}
 use Rattle.playback.proofs.cycle.count_off.Tie as tie
 

@@ -5,7 +5,6 @@ use Rattle.run.specs.Steps.{landed}
 use Rattle.run.proofs.Steps.{read-below}
 use Rattle.run.proofs.Seats.{sound-seated, stored-seated}
 use borrow.Author.Needs.{needs}
-use borrow.Author.Needs.{needs}
 use Rattle.playback.proofs.cycle.land.Statement.{statement}
 use Rattle.playback.proofs.cycle.land.Tie as tie
 

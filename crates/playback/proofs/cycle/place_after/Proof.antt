@@ -1,7 +1,6 @@
 -- `place_after` goes on by one, and after the last to the first. Assumes nothing.
 use Rattle.playback.proofs.Cycles.{place-on, place-first}
 use borrow.Author.Needs.{needs}
-use borrow.Author.Needs.{needs}
 use Rattle.playback.proofs.cycle.place_after.Statement.{statement}
 use Rattle.playback.proofs.cycle.place_after.Tie as tie
 

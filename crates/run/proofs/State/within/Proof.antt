@@ -1,7 +1,6 @@
 -- `within` tells whether a state is sound. Assumes nothing.
 use Rattle.run.proofs.States.{state-started, state-waits}
 use borrow.Author.Needs.{needs}
-use borrow.Author.Needs.{needs}
 use Rattle.run.proofs.State.within.Statement.{statement}
 use Rattle.run.proofs.State.within.Tie as tie
 

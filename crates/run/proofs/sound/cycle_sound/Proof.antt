@@ -5,7 +5,6 @@ use Rattle.run.specs.Run.{seatAt}
 use Rattle.run.proofs.Orders.{names-below}
 use Rattle.run.proofs.Tests.{cycle-rests, cycle-past, cycle-spent, cycle-over, cycle-free, cycle-other, cycle-reads}
 use borrow.Author.Needs.{needs}
-use borrow.Author.Needs.{needs}
 use Rattle.run.proofs.sound.cycle_sound.Statement.{statement}
 use Rattle.run.proofs.sound.cycle_sound.Tie as tie
 

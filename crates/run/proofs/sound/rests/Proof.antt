@@ -2,7 +2,6 @@
 use mathlib.Core.Path.{sym, _∙_}
 use Rattle.run.proofs.Steps.{nothing-read}
 use borrow.Author.Needs.{needs}
-use borrow.Author.Needs.{needs}
 use Rattle.run.proofs.sound.rests.Statement.{statement}
 use Rattle.run.proofs.sound.rests.Tie as tie
 

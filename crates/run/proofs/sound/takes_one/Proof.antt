@@ -3,7 +3,6 @@ use native.Mathlib.Omega.{arith}
 use borrow.Author.Tests.{not-true, not-false}
 use Rattle.drive.proofs.Checks.{tells-yes, tells-no}
 use borrow.Author.Needs.{needs}
-use borrow.Author.Needs.{needs}
 use Rattle.run.proofs.sound.takes_one.Statement.{statement}
 use Rattle.run.proofs.sound.takes_one.Tie as tie
 

@@ -10,7 +10,6 @@ use Rattle.verdict.specs.Answers.{setOf}
 use Rattle.run.specs.Sound.{StatesSound, NamesEach}
 use Rattle.run.proofs.Tests.{trial-good, trial-bad, test-sound, test-damaged}
 use borrow.Author.Needs.{needs}
-use borrow.Author.Needs.{needs}
 use Rattle.run.proofs.sound.test_run.Statement.{statement}
 use Rattle.run.proofs.sound.test_run.Tie as tie
 

@@ -4,7 +4,6 @@ use Rattle.run.specs.Seats.{Seated}
 use Rattle.run.proofs.Seats.{sound-seated, onward-few, ahead-few, ahead-put}
 use Rattle.scheduler.proofs.Cycles.{arrives-late, arrives}
 use borrow.Author.Needs.{needs}
-use borrow.Author.Needs.{needs}
 use Rattle.scheduler.proofs.cycle.arrive.Statement.{statement}
 use Rattle.scheduler.proofs.cycle.arrive.Tie as tie
 

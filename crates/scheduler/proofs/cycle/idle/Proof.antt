@@ -4,7 +4,6 @@ use Rattle.run.specs.Steps.{idled}
 use Rattle.run.proofs.Seats.{seat-few}
 use mathlib.Core.Path.{refl}
 use borrow.Author.Needs.{needs}
-use borrow.Author.Needs.{needs}
 use Rattle.scheduler.proofs.cycle.idle.Statement.{statement}
 use Rattle.scheduler.proofs.cycle.idle.Tie as tie
 

@@ -10,7 +10,7 @@ use mir.Val.{toZ, ofZ}
 use Rattle.drive.specs.Lists.{listed, padded}
 use Rattle.drive.proofs.Lists.{filled-none, filled-more}
 use Rattle.spare.specs.Times.{aheadAt}
-use Rattle.spare.proofs.Aheads.{Counting, counting}
+use Rattle.spare.proofs.Aheads.{counting}
 use Rattle.spare.proofs.ahead.aheads.Tie as tie
 use borrow.Author.Needs.{needs}
 use Rattle.spare.proofs.ahead.aheads.Statement.{statement}

@@ -1,5 +1,4 @@
 -- `floor_div` rounds down. Assumes nothing.
-use Prim.Native.Nat.{ℕ}
 use mir.Facts.{toZ-ofZ}
 use Rattle.theory.proofs.Floor.{floor-floors}
 use Rattle.spare.proofs.Truncated.{small, quot-fits, rem-fits, floor-fits, truncated-low, truncated-even}
