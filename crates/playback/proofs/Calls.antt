@@ -65,21 +65,21 @@ module _ (r : Run) (i n : ℕ) where
 
     module _ (l : i < playing r) (d : Drawn) (e : d ≡ drawnOf (stateAt r i) (clipAt r i) (r .started) n) where
       -- Of a session that plays, the player's answer counts.
-      answered : takeCheck r i n ≡ d .check
+      pub take-answered : takeCheck r i n ≡ d .check
       unfolding takeCheck
-      answered =
+      take-answered =
           sound-then r _ s ∙ first-within _ _ (unless-kept (decLt i (playing r)) refusal.NoSession l)
           ∙ sym (take-sound _ _ _ n (s .states i l)) ∙ sym (take-answers (stateAt r i) (clipAt r i) (r .started) n)
           ∙ ap (λ (x : Drawn). x .check) (sym e)
 
       pub take-handed : (w : Refusal) → d .check ≡ Refused w → _≡_ {A = Moved} (record { check = d .check; run = r }) (takeOf r i n)
       unfolding takeOf
-      take-handed w f = ap (λ (k : Check). record { check = k; run = r }) f ∙ moved-refused _ r _ w (answered ∙ f)
+      take-handed w f = ap (λ (k : Check). record { check = k; run = r }) f ∙ moved-refused _ r _ w (take-answered ∙ f)
 
       pub take-granted : d .check ≡ Within → granted (withStates r (set (r .states) i (d .state))) ≡ takeOf r i n
       unfolding takeOf taken
       take-granted f =
-          moved-granted _ r _ _ (answered ∙ f)
+          moved-granted _ r _ _ (take-answered ∙ f)
           (ap (λ (x : State). withStates r (set (r .states) i x))
           (ap (λ (x : Drawn). x .state) e ∙ granted-draws _ _ _ n (ap (λ (x : Drawn). x .check) (sym e) ∙ f)))
 

@@ -1,6 +1,6 @@
 -- Every call on a run, granted or refused: a sound run stays sound, and refused it is the run that was given. Assumes nothing.
 use Prim.Native.Nat.{ℕ, _-_, _≤_, _<_}
-use mathlib.Core.Path.{_≡_, refl, sym, subst}
+use mathlib.Core.Path.{_≡_, refl, sym, subst, _∙_}
 use mathlib.Core.Bool.{true}
 use lib.ListN.{length}
 use native.Mathlib.Decide.{decLe, decLt}
@@ -13,19 +13,19 @@ use Rattle.drive.proofs.Checks.{within-refused, unless-within, first-left, firs
 use Rattle.run.specs.declared.Underway.{Underway}
 use Rattle.run.specs.declared.Underway.the-variants as underway
 use Rattle.run.specs.declared.Run.{Run}
-use Rattle.run.specs.Run.{playing, stateAt}
+use Rattle.run.specs.Run.{playing, clipAt, stateAt}
 use Rattle.run.specs.Sound.{SoundRun}
 use Rattle.run.specs.Decisions.{sound?, true?, soundCheck}
 use Rattle.run.specs.Steps.{passed, taken, landed}
 use Rattle.run.specs.Answers.{sessionCheck}
 use Rattle.run.specs.Laws.{Kept}
-use Rattle.run.proofs.Answered.{moved-either, moved-back}
+use Rattle.run.proofs.Answered.{moved-check, moved-either, moved-back}
 use Rattle.run.proofs.Steps.{passed-sound, taken-sound, landed-sound, read-below}
 use Rattle.run.proofs.Rest.{same-kept, passed-kept, taken-kept, landed-kept, kept-then}
-use Rattle.player.specs.Answers.{earlyCheck, heldCheck}
+use Rattle.player.specs.Answers.{earlyCheck, heldCheck, drawnOf}
 use Rattle.playback.specs.Answers.{spanCheck, passCheck, passOf, takeCheck, takeOf}
 use Rattle.playback.specs.Answers.{busyCheck, finishCheck, landedFor, finishOf}
-use Rattle.playback.proofs.Calls.{passed-reads}
+use Rattle.playback.proofs.Calls.{take-answered, passed-reads}
 
 -- ---- pass
 
@@ -78,6 +78,12 @@ module _ (r : Run) (i n : ℕ) where
   pub take-refused : (w : Refusal) → takeOf r i n .check ≡ Refused w → takeOf r i n .run ≡ r
   unfolding takeOf
   take-refused = moved-back (takeCheck r i n) r (taken r i n)
+
+  -- Of a session that plays, a take on the run is the player's.
+  pub take-players :
+      SoundRun r → i < playing r → takeOf r i n .check ≡ drawnOf (stateAt r i) (clipAt r i) (r .started) n .check
+  unfolding takeOf
+  take-players s l = moved-check (takeCheck r i n) r (taken r i n) ∙ take-answered r i n s l _ refl
 
 -- ---- finish
 

@@ -29,9 +29,10 @@ use Rattle.run.proofs.Opening.{open-once}
 use Rattle.run.proofs.Begins.{opened-begins, opened-sound, opened-show, table-length}
 use Rattle.run.proofs.Rest.{same-kept}
 use Rattle.run.proofs.Steps.{idled-sound}
+use Rattle.player.proofs.Laws.{granted-sound, refused-back}
 use Rattle.playback.proofs.Calls.{pass-damaged, take-damaged, finish-damaged}
 use Rattle.playback.proofs.Laws.{pass-sound, take-sound, finish-sound, pass-kept, take-kept, finish-kept}
-use Rattle.playback.proofs.Laws.{pass-refused, take-refused, finish-refused}
+use Rattle.playback.proofs.Laws.{take-players, pass-refused, take-refused, finish-refused}
 use Rattle.scheduler.specs.declared.Choice.the-variants.{Idle}
 use Rattle.scheduler.specs.Answers.{chooseOf}
 use Rattle.scheduler.proofs.Calls.{choose-damaged}
@@ -170,6 +171,9 @@ runs =
             slack = sym (slack-damaged r n);
             start = sym (start-damaged r n);
           };
+      player-agrees = take-players;
+      player-sound = granted-sound;
+      player-refused = refused-back;
       after-unused = λ r q n a. leaves-unused r q (after-leaves r q n a);
       order-fixed = λ r q n a e. leaves-order r q (after-leaves r q n a) e;
       no-order-more = λ r place z e.

@@ -1,21 +1,24 @@
 -- The laws of a run, over every call that there is: docs/RULES.md, section 9. proofs/Runs.antt proves them.
 use Prim.Native.Nat.{ℕ, _≤_, _<_}
 use mathlib.Core.Path.{_≡_}
-use mathlib.Core.Bool.{true, false}
+use mathlib.Core.Bool.{Bool, true, false}
 use lib.IntN.{ℤ}
 use lib.ListN.{length}
 use lib.Signed.{_≤ℤ_}
+use Rattle.drive.specs.declared.Session.{Session}
 use Rattle.drive.specs.declared.Show.{Show}
 use Rattle.drive.specs.declared.refusal.Refusal.{Refusal}
 use Rattle.drive.specs.declared.refusal.Refusal.the-variants.{Damaged}
 use Rattle.drive.specs.declared.refusal.Check.the-variants.{Within, Refused}
 use Rattle.theory.specs.Spare.{slackBy}
+use Rattle.run.specs.declared.State.{State}
 use Rattle.run.specs.declared.Run.{Run}
 use Rattle.run.specs.declared.Opened.{Opened}
-use Rattle.run.specs.Run.{playing, stateAt, seatAt}
-use Rattle.run.specs.Sound.{SoundRun}
+use Rattle.run.specs.Run.{playing, stateAt, clipAt, seatAt}
+use Rattle.run.specs.Sound.{StateSound, SoundRun}
 use Rattle.run.specs.Opening.{OpenIs}
 use Rattle.run.specs.Laws.{Ahead}
+use Rattle.player.specs.Answers.{drawnOf}
 use Rattle.playback.specs.Answers.{passOf, takeOf, finishOf}
 use Rattle.scheduler.specs.declared.Choice.the-variants as choice
 use Rattle.scheduler.specs.Answers.{chooseOf}
@@ -77,6 +80,13 @@ pub record Runs : Type 0 where
   pub workahead-back : (r : Run) (i : ℕ) → workaheadOf r i .run ≡ r
   pub slack-back : (r : Run) → slackOf r .run ≡ r
   pub damaged-stays : (r : Run) → (SoundRun r → ⊥) → Stays r
+  -- A take on a session of a sound run is the player's take on its state.
+  pub player-agrees :
+      (r : Run) (i n : ℕ) → SoundRun r → i < playing r → takeOf r i n .check ≡ drawnOf (stateAt r i) (clipAt r i) (r .started) n .check
+  pub player-sound :
+      (s : State) (x : Session) (b : Bool) (n : ℕ) → drawnOf s x b n .check ≡ Within → StateSound true x (drawnOf s x b n .state)
+  pub player-refused :
+      (s : State) (x : Session) (b : Bool) (n : ℕ) (w : Refusal) → drawnOf s x b n .check ≡ Refused w → drawnOf s x b n .state ≡ s
   -- Unused places never change.
   pub after-unused : (r q : Run) → Sized r → After r q → Unused r q
   -- Once started, a run stays started, and its cycle stays in the order of the start.

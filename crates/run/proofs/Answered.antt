@@ -21,6 +21,13 @@ module _ (k : Check) (r next : Run) where
   pub moved-granted : (q : Run) → k ≡ Within → q ≡ next → granted q ≡ moved k r next
   moved-granted q e f = ap granted f ∙ ap (λ (x : Check). moved x r next) (sym e)
 
+  pub moved-check : moved k r next .check ≡ k
+  moved-check = from k
+    where
+      from : (j : Check) → moved j r next .check ≡ j
+      from Within = refl
+      from (Refused w) = refl
+
   -- what holds of the run given, and of the next where the call is granted
   pub moved-either : (P : Run → Type 0) → P r → (k ≡ Within → P next) → P (moved k r next .run)
   moved-either P h f = from k refl
