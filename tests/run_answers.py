@@ -6,9 +6,9 @@
 import copy, itertools, struct, sys
 from limits import LAYOUTS, SESSIONS, counts_ok, fault, within
 from show_answers import Refused, test_counts, test_limits
-from verdict_answers import holds, rows, smallest, times
+from verdict_answers import holds, smallest, times
 
-RECORD, SHOW = 24, 400
+RECORD = 24
 PUT_MOST, SPAN_MOST, MICRO = 2**40, 10**9, 10**6
 MODULUS = 2**31 - 1
 OPEN, PASS, TAKE, CHOOSE, FINISH, SAVE, BACK, WORKAHEAD, SLACK, START, PLAYER = range(11)
@@ -16,10 +16,10 @@ COUNT, P, G, C = range(4)
 
 class Run:
     """A run record: a show in memory, and the run's own fields, which are zeros at first."""
-    def __init__(self, numbers=(0,) * 100):
-        self.head = list(numbers[:4])    # A, N, layout count, session count
-        self.layouts = [list(row) for row in rows(numbers[4:], LAYOUTS)]
-        self.sessions = [list(row) for row in rows(numbers[4 + 4 * LAYOUTS:], SESSIONS)]
+    def __init__(self, head=(0,) * 4, layouts=((0,) * 4,) * LAYOUTS, sessions=((0,) * 4,) * SESSIONS):
+        self.head = list(head)    # A, N, layout count, session count
+        self.layouts = [list(row) for row in layouts]
+        self.sessions = [list(row) for row in sessions]
         self.states = [[0] * 4 for _ in range(SESSIONS)]    # count, P, G, C
         self.order = [0] * SESSIONS
         self.place = self.left = 0
@@ -59,9 +59,10 @@ class Run:
             yield from (*session, *state, named)
         yield from (self.place, self.left, *under, int(self.started))
 
-def opened(numbers):
-    run = Run(numbers)
-    test_counts(*numbers[2:4])
+def opened(given):
+    """The first run of the show that stands in a run."""
+    run = Run(given.head, given.layouts, given.sessions)
+    test_counts(*run.head[2:])
     test_limits(*run.show())
     counts = smallest(run.show())
     if counts is None:
@@ -217,35 +218,37 @@ def player_take(run, i, n):
     after.states[i][G] += n
     return 'ok', after
 
-# ---- a field that is overwritten
+# ---- a part that is overwritten
 
-ROWS = ((20, LAYOUTS, 'layouts'), (24, SESSIONS, 'sessions'), (28, SESSIONS, 'states'))
+(DRIVE, LAID, PLAYING, LAYOUT_ROW, SESSION_ROW, COUNT_AT, PUT, TAKEN, CLOCK, ORDER, PLACE, LEFT, NOTHING, READ, STARTED) = range(16, 31)
+PLACES = {LAYOUT_ROW: LAYOUTS, **dict.fromkeys((SESSION_ROW, COUNT_AT, PUT, TAKEN, CLOCK, ORDER), SESSIONS)}
 
-def poked(run, field, index, value):
-    """The run with the field changed, or None where there is no such field."""
-    run, half = copy.deepcopy(run), value % 2**32
-    for first, places, name in ROWS:
-        if within(field, first, first + 3):
-            if index >= places:
-                return None
-            getattr(run, name)[index][field - first] = value if name == 'states' and field - first != COUNT else half
-            return run
-    if field in (16, 17):
-        run.head[field - 16] = half
-    elif field in (18, 19):
-        run.head[field - 16] = value
-    elif field == 32 and index < SESSIONS:
-        run.order[index] = half
-    elif field == 33:
+def known(part, index):
+    return within(part, DRIVE, STARTED) and index < PLACES.get(part, index + 1)
+
+def poked(run, part, index, row):
+    """The run with the part changed."""
+    run, value = copy.deepcopy(run), row[0] + 2**32 * row[1]
+    if part == DRIVE:
+        run.head[:2] = row[:2]
+    elif part in (LAID, PLAYING):
+        run.head[part - LAID + 2] = value
+    elif part == LAYOUT_ROW:
+        run.layouts[index] = list(row)
+    elif part == SESSION_ROW:
+        run.sessions[index] = list(row)
+    elif part in (COUNT_AT, PUT, TAKEN, CLOCK):
+        run.states[index][part - COUNT_AT] = row[0] if part == COUNT_AT else value
+    elif part == ORDER:
+        run.order[index] = row[0]
+    elif part == PLACE:
         run.place = value
-    elif field == 34:
-        run.left = half
-    elif field in (35, 36):
-        run.under = value if field == 36 else None
-    elif field == 37:
-        run.started = value != 0
+    elif part == LEFT:
+        run.left = row[0]
+    elif part in (NOTHING, READ):
+        run.under = value if part == READ else None
     else:
-        return None
+        run.started = value != 0
     return run
 
 # ---- what is printed
@@ -263,43 +266,41 @@ class Desk:
     def __init__(self):
         self.run = self.kept = Run()
 
-    def open(self, numbers):
+    def open(self):
         try:
-            self.run = opened(numbers)
+            self.run = opened(self.run)
             return 'ok'
         except Refused as no:
             self.run = Run()
             return 'refused %d %d' % no.args
 
-    def answer(self, operation, index, value):
+    def answer(self, operation, index, row):
+        value, said = row[0] + 2**32 * row[1], 'ok'
+        if operation == OPEN:
+            return self.open()
         if operation in CALLS:
-            answer, self.run = called(self.run, operation, index, value)
-            return answer
-        if operation == SAVE:
+            said, self.run = called(self.run, operation, index, value)
+        elif operation == SAVE:
             self.kept = self.run
         elif operation == BACK:
             self.run = self.kept
         elif operation == PLAYER and index < SESSIONS:
-            answer, self.run = player_take(self.run, index, value)
-            return answer
+            said, self.run = player_take(self.run, index, value)
+        elif known(operation, index):
+            self.run = poked(self.run, operation, index, row)
         else:
-            after = poked(self.run, operation, index, value)
-            if after is None:
-                return 'unknown'
-            self.run = after
-        return 'ok'
+            said = 'unknown'
+        return said
 
 def answers(data):
-    desk, at, place = Desk(), 0, 0
-    while at < len(data):
-        length = RECORD + (SHOW if data[at:at + 8] == bytes(8) else 0)
-        if len(data) - at < length:
+    desk = Desk()
+    for place, at in enumerate(range(0, len(data), RECORD)):
+        if len(data) - at < RECORD:
             yield 'short'
             return
-        operation, index, value = struct.unpack_from('<3Q', data, at)
-        said = desk.answer(operation, index, value) if operation != OPEN else desk.open(struct.unpack_from('<100I', data, at + RECORD))
+        operation, index, *row = struct.unpack_from('<6I', data, at)
+        said = desk.answer(operation, index, row)
         yield '%d %s %d' % (place, said, checksum(desk.run))
-        at, place = at + length, place + 1
 
 def main():
     for line in answers(sys.stdin.buffer.read()):

@@ -1,14 +1,18 @@
 """The records that the program `runs` is run on, and the run that they are on: for the scripts that make its cases. The rules of run_answers.py follow each
 record, so that the next one can go by the run."""
 import itertools, struct, sys
+import run_answers
 from dice import Dice
 from limits import LAYOUTS, SESSIONS
 from run_answers import BACK, CHOOSE, FINISH, G, OPEN, P, PASS, PUT_MOST, SLACK, SPAN_MOST, START, TAKE, WORKAHEAD, Desk
 from verdict_answers import needed, smallest
 from verdict_cases import NONE, X, alike, buffered
 
+# the fields that cases name; some stand in one part of a run with others
 (A, N, LAID, PLAYING, LONGEST, TRACK, TIME, ROTATION, RATE, CUSHION, BUFFER, LAYOUT, COUNT, PUT, TAKEN, CLOCK, ORDER, PLACE, LEFT, NOTHING, READ,
  STARTED) = range(16, 38)
+PARTS = {A: run_answers.DRIVE, LAID: run_answers.LAID, PLAYING: run_answers.PLAYING, LONGEST: run_answers.LAYOUT_ROW, RATE: run_answers.SESSION_ROW,
+         **{field: field - COUNT + run_answers.COUNT_AT for field in range(COUNT, STARTED + 1)}}
 FAR = 2**64 - 1
 DICE = Dice(1991)
 DESK = Desk()
@@ -16,23 +20,44 @@ TURNS = itertools.cycle((WORKAHEAD, SLACK, START))
 
 # ---- records
 
+def send(operation, index, row):
+    sys.stdout.buffer.write(struct.pack('<6I', operation, index, *row))
+    return DESK.answer(operation, index, row)
+
 def ask(operation, index=0, value=0):
     """Hands back what must be answered."""
-    sys.stdout.buffer.write(struct.pack('<3Q', operation, index, value))
-    return DESK.answer(operation, index, value)
+    return send(operation, index, (value % 2**32, value >> 32, 0, 0))
 
 def put(show, laid=None, playing=None, rest=NONE):
-    """Opens a show. `laid` and `playing` stand for the counts that it has, `rest` in the places that are not used."""
+    """Opens a show. `laid` and `playing` stand for the counts that it has, `rest` in the places that are not used. Only what is not there yet is written."""
     drive, layouts, sessions = show
-    fours = [(*drive, len(layouts) if laid is None else laid, len(sessions) if playing is None else playing)]
-    fours += layouts + [rest] * (LAYOUTS - len(layouts))
-    fours += sessions + [rest] * (SESSIONS - len(sessions))
-    numbers = list(itertools.chain(*fours))
-    sys.stdout.buffer.write(struct.pack('<3Q100I', OPEN, 0, 0, *numbers))
-    return DESK.open(numbers)
+    run = DESK.run
+    counts = len(layouts) if laid is None else laid, len(sessions) if playing is None else playing
+    if run.head[:2] != list(drive):
+        send(run_answers.DRIVE, 0, (*drive, 0, 0))
+    for part, there, count in zip((run_answers.LAID, run_answers.PLAYING), run.head[2:], counts):
+        if there != count:
+            ask(part, 0, count)
+    for part, there, used in ((run_answers.LAYOUT_ROW, run.layouts, layouts), (run_answers.SESSION_ROW, run.sessions, sessions)):
+        for i, row in enumerate(used + [rest] * (len(there) - len(used))):
+            if there[i] != list(row):
+                send(part, i, row)
+    return ask(OPEN)
+
+def row_of(field, index):
+    """The first field of the part that has this one, and the part as it is."""
+    if field in (A, N):
+        return A, DESK.run.head[:2] + [0, 0]
+    first, rows = (LONGEST, DESK.run.layouts) if field < RATE else (RATE, DESK.run.sessions)
+    return first, list(rows[index % len(rows)])
 
 def poke(field, value, index=0):
-    ask(field, index, value)
+    if field in PARTS and field not in (A, LONGEST, RATE):
+        ask(PARTS[field], index, value)
+    else:
+        first, row = row_of(field, index)
+        row[field - first] = value % 2**32
+        send(PARTS[first], index, row)
 
 def pokes(*changes):
     for change in changes:

@@ -137,7 +137,7 @@ def spare_in_order():
         if under:
             ask(CHOOSE)
         stand()
-        for i in (2, 3, 15, 16, 2**32, FAR):
+        for i in (2, 3, 15, 16, 2**31, PAST):
             ask(WORKAHEAD, i)
         for change in ((STARTED, started), (LEFT, 0)):
             poke(*change)
@@ -249,7 +249,7 @@ def players():
     for field, value in ((LEFT, 0), (A, 0), (RATE, 0), (LAYOUT, 9), (COUNT, 0), (PLACE, 16), (READ, 3), (BUFFER, 800), (BUFFER, 799)):
         poke(field, value)
         ask(PLAYER, 0, 100 if field == LEFT else 0)
-    for i in (SESSIONS, 2**32, FAR):
+    for i in (SESSIONS, 2**31, PAST):
         ask(PLAYER, i, 0)
 
 def players_play():

@@ -1,29 +1,26 @@
-// What a record says: the operation that is asked for, and the show that may follow it.
+// What a record says: the operation that is asked for, and its numbers.
 ghost use mathlib.Core.Path.{_≡_};
 ghost use Prim.Native.Nat.{_+_, _<_, _≤_};
 ghost use lib.ListN.{length};
-use drive::Drive;
-use drive::Layout;
-use drive::Session;
-use drive::Show;
 
 pub(crate) const RECORD: usize = 24;
 
-pub(crate) const SHOW: usize = 400;
-
+// The value is the first two of the four numbers, as one.
 pub(crate) struct Asked {
-    pub operation: u64,
+    pub operation: u32,
     pub index: usize,
     pub value: u64,
+    pub row: [u32; 4],
 }
 
 pub(crate) fn asked_of(s: &[u8]) -> Asked
     requires { ⌜ length (now s) ≡ 24 ⌝ }
 {
     Asked {
-        operation: long(s, 0),
-        index: size(long(s, 8)),
-        value: long(s, 16),
+        operation: word(s, 0),
+        index: size(word(s, 4)),
+        value: long(s, 8),
+        row: [word(s, 8), word(s, 12), word(s, 16), word(s, 20)],
     }
 }
 
@@ -53,91 +50,6 @@ fn wide(n: u32) -> u64
     n as u64
 }
 
-fn size(n: u64) -> usize {
+fn size(n: u32) -> usize {
     n as usize
-}
-
-// ---- a show
-
-pub(crate) fn numbers(s: &[u8]) -> [u32; 100]
-    requires { ⌜ length (now s) ≡ 400 ⌝ }
-{
-    let mut out = [0u32; 100];
-    let mut i = 0;
-    while i < 100 {
-        out[i] = word(s, 4 * i);
-        i += 1;
-    }
-    out
-}
-
-pub(crate) fn show_of(n: &[u32; 100]) -> Show {
-    Show {
-        drive: Drive {
-            block: n[0],
-            cylinder: n[1],
-        },
-        layouts: layouts_of(n),
-        laid: size(wide(n[2])),
-        sessions: sessions_of(n),
-        playing: size(wide(n[3])),
-    }
-}
-
-fn layout_at(n: &[u32; 100], i: usize) -> Layout
-    requires { ⌜ i < 8 ⌝ }
-{
-    let at = 4 + 4 * i;
-    Layout {
-        longest: n[at],
-        track: n[at + 1],
-        time: n[at + 2],
-        rotation: n[at + 3],
-    }
-}
-
-fn session_at(n: &[u32; 100], i: usize) -> Session
-    requires { ⌜ i < 16 ⌝ }
-{
-    let at = 36 + 4 * i;
-    Session {
-        rate: n[at],
-        cushion: n[at + 1],
-        buffer: n[at + 2],
-        layout: n[at + 3],
-    }
-}
-
-fn layouts_of(n: &[u32; 100]) -> [Layout; 8] {
-    [
-        layout_at(n, 0),
-        layout_at(n, 1),
-        layout_at(n, 2),
-        layout_at(n, 3),
-        layout_at(n, 4),
-        layout_at(n, 5),
-        layout_at(n, 6),
-        layout_at(n, 7),
-    ]
-}
-
-fn sessions_of(n: &[u32; 100]) -> [Session; 16] {
-    [
-        session_at(n, 0),
-        session_at(n, 1),
-        session_at(n, 2),
-        session_at(n, 3),
-        session_at(n, 4),
-        session_at(n, 5),
-        session_at(n, 6),
-        session_at(n, 7),
-        session_at(n, 8),
-        session_at(n, 9),
-        session_at(n, 10),
-        session_at(n, 11),
-        session_at(n, 12),
-        session_at(n, 13),
-        session_at(n, 14),
-        session_at(n, 15),
-    ]
 }

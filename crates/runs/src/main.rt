@@ -1,7 +1,7 @@
 // Reads operations on a run from standard input and prints what each answers, with a checksum of the run after it (docs/RULES.md,
-// sections 9 and 10). The input is numbers, the lowest byte first. A record has three of 8 bytes: operation, index, value.
-//   0 show     a show of 400 bytes follows, numbers of 4 bytes: A, N, the layout count, the session count, eight layouts and sixteen
-//              sessions of four numbers each; it is opened
+// sections 9 and 10). The input is numbers of 4 bytes, the lowest byte first. A record has six: operation, index, and four more, of
+// which the first two are the value, the lower half first.
+//   0 open     the show of the run, as it stands in it
 //   1 pass     value µs
 //   2 take     value bytes of the session index
 //   3 choose
@@ -12,7 +12,7 @@
 //   8 slack
 //   9 start
 //   10 player  value bytes of the session index, by its state alone, which is put back into the run
-//   16 to 37   a field of the run is overwritten by the value: poked.rt says which
+//   16 to 30   a part of the run is overwritten: poked.rt says which
 // The answers, a line each, which tests/run_answers.py computes on its own:
 //   RECORD ANSWER CHECKSUM
 //   short, for a last record that is cut short
@@ -23,14 +23,11 @@ mod given;
 mod poked;
 mod told;
 
-ghost use Prim.Native.Nat.{_<_, _≤_};
+ghost use Prim.Native.Nat.{_<_};
 ghost use lib.ListN.{length};
 use crate::given::Asked;
 use crate::given::RECORD;
-use crate::given::SHOW;
 use crate::given::asked_of;
-use crate::given::numbers;
-use crate::given::show_of;
 use crate::poked::poke;
 use crate::told::checksum;
 use crate::told::number;
@@ -102,37 +99,9 @@ fn answer_at(bytes: &[u8], at: usize, place: usize, desk: Desk) -> Turn
     }
     let end = at + RECORD;
     let asked = asked_of(&bytes[at..end]);
-    if asked.operation == 0 {
-        return show_at(bytes, end, place, desk);
-    }
     Turn {
         at: end,
         desk: answer(asked, place, desk),
-    }
-}
-
-// Opens the show that starts at `at`.
-fn show_at(bytes: &[u8], at: usize, place: usize, desk: Desk) -> Turn
-    requires { ⌜ at ≤ length (now bytes) ⌝ }
-    ensures { λ r. ⌜ at ≤ r .at ⌝ }
-{
-    if bytes.len() - at < SHOW {
-        say(b"short\n");
-        return Turn {
-            at: bytes.len(),
-            desk,
-        };
-    }
-    let end = at + SHOW;
-    number(place as u64);
-    let n = numbers(&bytes[at..end]);
-    let run = open(show_of(&n));
-    checksum(run);
-    say(b"\n");
-    let kept = desk.kept;
-    Turn {
-        at: end,
-        desk: Desk { run, kept },
     }
 }
 
@@ -169,7 +138,9 @@ fn perform(asked: Asked, desk: Desk) -> Desk {
 
 fn call(asked: Asked, run: Run) -> Run {
     let operation = asked.operation;
+    let show = run.show;
     match operation {
+        0 => open(show),
         1 => moved(playback::pass(run, asked.value)),
         2 => moved(playback::take(run, asked.index, asked.value)),
         3 => chosen(scheduler::choose(run)),

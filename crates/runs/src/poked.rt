@@ -1,11 +1,11 @@
-// A field of the run overwritten, by its number; where it stands in a place, the index says which.
-//   16 A, 17 N, 18 the layout count, 19 the session count
-//   20 longest seek, 21 one-track seek, 22 block time, 23 rotation, of a layout
-//   24 R, 25 Y, 26 B, 27 the layout number, of a session
-//   28 count, 29 P, 30 G, 31 C, of a session
-//   32 the order, at a place
-//   33 the place, 34 what is left, 35 nothing under way, 36 a read under way on the session value, 37 started, if the value is not 0
-// A field of 32 bits gets the lower half of the value.
+// A part of the run overwritten, by its number; where it stands in a place, the index says which.
+//   16 the drive: A, N; 17 the layout count, 18 the session count
+//   19 a layout: longest seek, one-track seek, block time, rotation
+//   20 a session: R, Y, B, the layout number
+//   21 count, 22 P, 23 G, 24 C, of a session
+//   25 the order, at a place
+//   26 the place, 27 what is left, 28 nothing under way, 29 a read under way on the session value, 30 started, if the value is not 0
+// 16, 19 and 20 get the four numbers, 21, 25 and 27 the first of them, the others the value.
 use crate::given::Asked;
 use drive::Layout;
 use drive::Session;
@@ -14,7 +14,7 @@ use run::Run;
 use run::State;
 use run::Underway;
 
-// Whether there is such a field and such a place, and the run with it overwritten.
+// Whether there is such a part and such a place, and the run with it overwritten.
 pub(crate) struct Poked {
     pub known: bool,
     pub run: Run,
@@ -23,12 +23,12 @@ pub(crate) struct Poked {
 pub(crate) fn poke(asked: Asked, run: Run) -> Poked {
     let operation = asked.operation;
     match operation {
-        16..=19 => poke_show(asked, run),
-        20..=23 => poke_layout(asked, run),
-        24..=27 => poke_session(asked, run),
-        28..=31 => poke_state(asked, run),
-        32 => poke_order(asked, run),
-        33..=37 => known(poke_cycle(asked, run)),
+        16..=18 => poke_show(asked, run),
+        19 => poke_layout(asked, run),
+        20 => poke_session(asked, run),
+        21..=24 => poke_state(asked, run),
+        25 => poke_order(asked, run),
+        26..=30 => known(poke_cycle(asked, run)),
         _ => unknown(run),
     }
 }
@@ -39,10 +39,6 @@ fn known(run: Run) -> Poked {
 
 fn unknown(run: Run) -> Poked {
     Poked { known: false, run }
-}
-
-fn lower(value: u64) -> u32 {
-    (value % 4294967296) as u32
 }
 
 fn size(value: u64) -> usize {
@@ -59,12 +55,16 @@ fn with_show(run: Run, show: Show) -> Poked {
 
 fn poke_show(asked: Asked, run: Run) -> Poked {
     let operation = asked.operation;
-    let half = lower(asked.value);
+    let row = asked.row;
+    let block = row[0];
+    let cylinder = row[1];
     let mut show = run.show;
     match operation {
-        16 => show.drive.block = half,
-        17 => show.drive.cylinder = half,
-        18 => show.laid = size(asked.value),
+        16 => {
+            show.drive.block = block;
+            show.drive.cylinder = cylinder;
+        }
+        17 => show.laid = size(asked.value),
         _ => show.playing = size(asked.value),
     }
     with_show(run, show)
@@ -75,21 +75,16 @@ fn poke_layout(asked: Asked, run: Run) -> Poked {
     if 8 <= index {
         return unknown(run);
     }
+    let row = asked.row;
+    let layout = Layout {
+        longest: row[0],
+        track: row[1],
+        time: row[2],
+        rotation: row[3],
+    };
     let mut show = run.show;
-    show.layouts[index] = layout_with(show.layouts[index], asked);
+    show.layouts[index] = layout;
     with_show(run, show)
-}
-
-fn layout_with(layout: Layout, asked: Asked) -> Layout {
-    let operation = asked.operation;
-    let mut next = layout;
-    match operation {
-        20 => next.longest = lower(asked.value),
-        21 => next.track = lower(asked.value),
-        22 => next.time = lower(asked.value),
-        _ => next.rotation = lower(asked.value),
-    }
-    next
 }
 
 fn poke_session(asked: Asked, run: Run) -> Poked {
@@ -97,21 +92,16 @@ fn poke_session(asked: Asked, run: Run) -> Poked {
     if 16 <= index {
         return unknown(run);
     }
+    let row = asked.row;
+    let session = Session {
+        rate: row[0],
+        cushion: row[1],
+        buffer: row[2],
+        layout: row[3],
+    };
     let mut show = run.show;
-    show.sessions[index] = session_with(show.sessions[index], asked);
+    show.sessions[index] = session;
     with_show(run, show)
-}
-
-fn session_with(session: Session, asked: Asked) -> Session {
-    let operation = asked.operation;
-    let mut next = session;
-    match operation {
-        24 => next.rate = lower(asked.value),
-        25 => next.cushion = lower(asked.value),
-        26 => next.buffer = lower(asked.value),
-        _ => next.layout = lower(asked.value),
-    }
-    next
 }
 
 // ---- of the run itself
@@ -121,9 +111,10 @@ fn poke_state(asked: Asked, run: Run) -> Poked {
     if 16 <= index {
         return unknown(run);
     }
+    let row = asked.row;
     let mut next = run;
-    if asked.operation == 28 {
-        next.counts[index] = lower(asked.value);
+    if asked.operation == 21 {
+        next.counts[index] = row[0];
     } else {
         next.states[index] = state_with(run.states[index], asked);
     }
@@ -134,8 +125,8 @@ fn state_with(state: State, asked: Asked) -> State {
     let operation = asked.operation;
     let mut next = state;
     match operation {
-        29 => next.put = asked.value,
-        30 => next.taken = asked.value,
+        22 => next.put = asked.value,
+        23 => next.taken = asked.value,
         _ => next.clock = asked.value,
     }
     next
@@ -146,19 +137,21 @@ fn poke_order(asked: Asked, run: Run) -> Poked {
     if 16 <= index {
         return unknown(run);
     }
+    let row = asked.row;
     let mut next = run;
-    next.order[index] = lower(asked.value);
+    next.order[index] = row[0];
     known(next)
 }
 
 fn poke_cycle(asked: Asked, run: Run) -> Run {
     let operation = asked.operation;
+    let row = asked.row;
     let mut next = run;
     match operation {
-        33 => next.place = size(asked.value),
-        34 => next.left = lower(asked.value),
-        37 => next.started = asked.value != 0,
-        35 => {
+        26 => next.place = size(asked.value),
+        27 => next.left = row[0],
+        30 => next.started = asked.value != 0,
+        28 => {
             return with_underway(run, Underway::Nothing);
         }
         _ => {
