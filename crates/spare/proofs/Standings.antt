@@ -10,10 +10,10 @@ use lib.IntN.{ℤ, pos, negsuc, _-ℤ_}
 use lib.Signed.{mag}
 use mir.Syntax.{w64}
 use mir.Val.{SFits}
-use Rattle.drive.specs.Bound.{worstMost}
-use Rattle.drive.proofs.Bound.{worst-capped}
-use Rattle.drive.proofs.Costs.{cost-limited}
 use Rattle.drive.proofs.Lists.{filled-at}
+use Rattle.cost.specs.Bound.{worstMost}
+use Rattle.cost.proofs.Bound.{worst-capped}
+use Rattle.cost.proofs.Costs.{cost-limited}
 use Rattle.theory.specs.Sum.{sumTo, sumWhere}
 use Rattle.theory.specs.Spare.{rank, loadBy, slackBy}
 use Rattle.theory.specs.Shows.{loadOf}
