@@ -1,9 +1,5 @@
 pub mod Checks
 pub mod Rows
-pub mod Ceil
-pub mod Edges
-pub mod Bound
 pub mod Lists
 pub mod Shows
-pub mod Costs
 pub mod Faults

@@ -6,9 +6,7 @@ use native.Mathlib.Decide.{decLe, decLt, ℕ-discrete}
 use Rattle.drive.specs.declared.Drive.{Drive}
 use Rattle.drive.specs.declared.Layout.{Layout}
 use Rattle.drive.specs.declared.Session.{Session}
-use Rattle.drive.specs.declared.cost.Cost.{Cost}
 use Rattle.drive.specs.Limits.{Between, DriveWithin, LayoutWithin, SessionWithin, CountsWithin}
-use Rattle.drive.specs.Bound.{Limited}
 
 -- A statement is told where another is that holds exactly when it does.
 abbrev pub decided : {p q : Type 0} → (p → q) → (q → p) → Dec p → Dec q
@@ -44,9 +42,3 @@ unfolding Dec·and between? decLe
 counts? laid playing =
     decided (λ h. record { layouts = h .0; sessions = h .1 }) (λ b. (b .layouts, b .sessions))
     (Dec·and (between? _ _ _) (decLe _ _))
-
-unfoldable pub limited? : (c : Cost) → Dec (Limited c)
-unfolding Dec·and decLe
-limited? c =
-    decided (λ h. record { fixed = h .0; each = h .1 .0; cross = h .1 .1 }) (λ b. (b .fixed, (b .each, b .cross)))
-    (Dec·and (decLe _ _) (Dec·and (decLe _ _) (decLe _ _)))

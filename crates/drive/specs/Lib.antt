@@ -1,8 +1,6 @@
 pub mod Lists
 pub mod Limits
-pub mod Bound
 pub mod Decisions
 pub mod Refusals
 pub mod Checks
 pub mod Faults
-pub mod Worst

@@ -1,5 +1,4 @@
 // A show: one drive, its layouts and its sessions, the limits of each, and the test of a whole show.
-pub mod cost;
 pub mod refusal;
 
 ghost use mathlib.Core.Path.{_≡_};

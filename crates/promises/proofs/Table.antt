@@ -16,10 +16,10 @@ use Rattle.drive.specs.Limits.{Between, ShowWithin, LaidWithin, sessionAt, noSe
 use Rattle.drive.specs.Decisions.{counts?, drive?, layout?, session?}
 use Rattle.drive.specs.Checks.{showCheck, firstBelow}
 use Rattle.drive.specs.Lists.{listed, padded}
-use Rattle.drive.specs.Bound.{worstTime, edges, ceil}
-use Rattle.drive.specs.Worst.{costOf, worstOf}
 use Rattle.drive.proofs.Lists.{listed-length, listed-at}
 use Rattle.drive.proofs.Shows.{check-within}
+use Rattle.cost.specs.Bound.{worstTime, edges, ceil}
+use Rattle.cost.specs.Worst.{costOf, worstOf}
 use Rattle.theory.specs.Sum.{sumTo}
 use Rattle.theory.specs.Counts.{unit, roundTime, needed}
 use Rattle.theory.specs.Rounds.{need, asked, next, turns, NotPast}

@@ -9,12 +9,12 @@ use Rattle.drive.specs.declared.Drive.{Drive}
 use Rattle.drive.specs.declared.Layout.{Layout}
 use Rattle.drive.specs.declared.Session.{Session}
 use Rattle.drive.specs.declared.Show.{Show}
-use Rattle.drive.specs.declared.cost.Worst.the-variants.{Takes}
 use Rattle.drive.specs.declared.refusal.Refusal.the-variants.{NoSet}
 use Rattle.drive.specs.declared.refusal.Check.the-variants.{Within}
 use Rattle.drive.specs.Limits.{Between, noLayout, noSession}
 use Rattle.drive.specs.Lists.{listed}
-use Rattle.drive.specs.Worst.{worstOf}
+use Rattle.cost.specs.declared.Worst.the-variants.{Takes}
+use Rattle.cost.specs.Worst.{worstOf}
 use Rattle.theory.specs.Spare.{slackBy}
 use Rattle.verdict.specs.declared.Decision.{Decision}
 use Rattle.verdict.specs.declared.Trial.{Trial}

@@ -10,12 +10,12 @@ use lib.ListN.{length, length-append}
 use Rattle.drive.specs.declared.Show.{Show}
 use Rattle.drive.specs.declared.refusal.Refusal.{Refusal}
 use Rattle.drive.specs.declared.refusal.Refusal.the-variants.{NoSet}
-use Rattle.drive.specs.Bound.{countMost, worstMost}
 use Rattle.drive.specs.Limits.{ShowWithin}
-use Rattle.drive.specs.Worst.{costOf}
 use Rattle.drive.specs.Refusals.{numberOf, placeOf}
-use Rattle.drive.proofs.Bound.{worst-capped}
-use Rattle.drive.proofs.Costs.{cost-limited}
+use Rattle.cost.specs.Bound.{countMost, worstMost}
+use Rattle.cost.specs.Worst.{costOf}
+use Rattle.cost.proofs.Bound.{worst-capped}
+use Rattle.cost.proofs.Costs.{cost-limited}
 use Rattle.showfile.proofs.Readable.{read-within}
 use Rattle.theory.specs.Counts.{Load, Good, roundTime, needed}
 use Rattle.theory.specs.Shows.{loadOf}

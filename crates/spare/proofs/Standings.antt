@@ -9,10 +9,10 @@ use lib.IntN.{ℤ, pos, negsuc, _-ℤ_}
 use lib.Signed.{mag}
 use mir.Syntax.{w64}
 use mir.Val.{SFits}
-use Rattle.drive.specs.Bound.{worstMost}
-use Rattle.drive.proofs.Bound.{worst-capped}
-use Rattle.drive.proofs.Costs.{cost-limited}
 use Rattle.drive.proofs.Lists.{filled-at}
+use Rattle.cost.specs.Bound.{worstMost}
+use Rattle.cost.proofs.Bound.{worst-capped}
+use Rattle.cost.proofs.Costs.{cost-limited}
 use Rattle.theory.specs.Sum.{sumWhere}
 use Rattle.theory.specs.Spare.{rank}
 use Rattle.theory.specs.Shows.{loadOf}

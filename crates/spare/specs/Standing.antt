@@ -4,8 +4,8 @@ use mathlib.Core.List.{List}
 use lib.ListN.{getD}
 use lib.IntN.{ℤ, pos}
 use lib.Signed.{mag}
-use Rattle.drive.specs.Bound.{worstMost}
 use Rattle.drive.specs.Lists.{listed, padded}
+use Rattle.cost.specs.Bound.{worstMost}
 use Rattle.theory.specs.Spare.{rank, loadBy, spareBy, slackBy}
 use Rattle.theory.specs.Shows.{loadOf}
 use Rattle.verdict.specs.Answers.{setOf, timesOf}

@@ -3,7 +3,7 @@ use Prim.Native.Nat.{ℕ, _≤_, _<_}
 use mathlib.Core.Path.{_∙_}
 use native.Mathlib.Omega.{arith}
 use native.Mathlib.Nat.{le-trans, lt-of-le-of-lt, mul-le-mul}
-use Rattle.drive.proofs.Bound.{bound-grows}
+use Rattle.cost.proofs.Bound.{bound-grows}
 use Rattle.theory.specs.Counts.{Stream, Load, Sound, roundTime, Augmenting, Feasible, Good, Accepted, Smallest}
 use Rattle.theory.specs.Lighter.{Light, Lighter}
 use Rattle.theory.proofs.Sum.{sum-grows, sum-part}

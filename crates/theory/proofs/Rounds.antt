@@ -5,8 +5,8 @@ use mathlib.Core.Path.{_≡_, _∙_, ap}
 use native.Mathlib.Omega.{arith}
 use native.Mathlib.Nat.{le-refl, le-trans, le-antisymm, lt-of-le-of-lt, mul-add, mul-left-comm, mul-le-mul, mul-le-mul-left, mul-le-mul-right, mul-add-div, div-lt-iff-lt-mul}
 use native.Mathlib.Decide.{decLe}
-use Rattle.drive.specs.Bound.{countMost}
-use Rattle.drive.proofs.Bound.{bound-grows}
+use Rattle.cost.specs.Bound.{countMost}
+use Rattle.cost.proofs.Bound.{bound-grows}
 use Rattle.theory.specs.Counts.{Load, Sound, unit, roundTime, needed, Augmenting, Feasible, Good, Accepted, Smallest}
 use Rattle.theory.specs.Rounds.{need, asked, next, turns, Sustains, Fits, NotPast, LeastTime}
 use Rattle.theory.proofs.Sum.{sum-grows, sum-same}

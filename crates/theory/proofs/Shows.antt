@@ -13,10 +13,10 @@ use Rattle.drive.specs.declared.Layout.{Layout}
 use Rattle.drive.specs.declared.Session.{Session}
 use Rattle.drive.specs.declared.Show.{Show}
 use Rattle.drive.specs.Limits.{ShowWithin, Alike, layoutAt, sessionAt, noSession}
-use Rattle.drive.specs.Bound.{Cheaper, worstTime, countMost}
-use Rattle.drive.specs.Worst.{costOf}
-use Rattle.drive.proofs.Bound.{worst-cheaper}
-use Rattle.drive.proofs.Costs.{session-laws, read-cheaper}
+use Rattle.cost.specs.Bound.{Cheaper, worstTime, countMost}
+use Rattle.cost.specs.Worst.{costOf}
+use Rattle.cost.proofs.Bound.{worst-cheaper}
+use Rattle.cost.proofs.Costs.{session-laws, read-cheaper}
 use Rattle.theory.specs.Counts.{Sound, Feasible, Good, Smallest}
 use Rattle.theory.specs.Lighter.{Light, Lighter}
 use Rattle.theory.specs.Shows.{loadOf, Quicker, Easier, Eased, without, stoodAt, Lightened, eased, left-out, then}

@@ -1,6 +1,6 @@
 -- The set of counts: docs/RULES.md, section 7. Of a session's worst time nothing is said but that it has the laws.
 use Prim.Native.Nat.{ℕ, _+_, _*_, _≤_, _<_}
-use Rattle.drive.specs.Bound.{BoundLaws}
+use Rattle.cost.specs.Bound.{BoundLaws}
 use Rattle.theory.specs.Sum.{sumTo}
 
 -- A session as the verdict sees it: R, Y, B and its worst time U, with what U weighs and has to spare.

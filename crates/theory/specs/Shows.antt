@@ -8,8 +8,8 @@ use lib.ListN.{length, take, drop}
 use Rattle.drive.specs.declared.Layout.{Layout}
 use Rattle.drive.specs.declared.Show.{Show}
 use Rattle.drive.specs.Limits.{layoutAt, sessionAt, noSession}
-use Rattle.drive.specs.Bound.{worstTime, weight, spareOf}
-use Rattle.drive.specs.Worst.{costOf}
+use Rattle.cost.specs.Bound.{worstTime, weight, spareOf}
+use Rattle.cost.specs.Worst.{costOf}
 use Rattle.theory.specs.Counts.{Stream, Load}
 
 -- A session, and a show, as the verdict sees them.

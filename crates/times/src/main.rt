@@ -1,9 +1,10 @@
 // Prints the worst time for a table of drives, layouts and counts, then the answers to shows at and just past each limit.
+use cost::Worst;
+use cost::worst_time;
 use drive::Drive;
 use drive::Layout;
 use drive::Session;
 use drive::Show;
-use drive::cost::Worst;
 use libc::STDOUT_FILENO;
 
 fn main() {
@@ -78,7 +79,7 @@ fn row(cylinder: u32, y: Layout, n: u32) {
     number(y.time as u64);
     number(y.rotation as u64);
     number(n as u64);
-    answer(s.worst(0, n));
+    answer(worst_time(s, 0, n));
 }
 
 // ---- shows at and just past a limit
@@ -153,7 +154,7 @@ fn on_drive(block: u32, cylinder: u32) {
     io::write_all(STDOUT_FILENO, b"drive");
     number(block as u64);
     number(cylinder as u64);
-    answer(s.worst(5, 1));
+    answer(worst_time(s, 5, 1));
 }
 
 fn layouts() {
@@ -177,7 +178,7 @@ fn on_layout(y: Layout) {
     number(y.track as u64);
     number(y.time as u64);
     number(y.rotation as u64);
-    answer(s.worst(5, 1));
+    answer(worst_time(s, 5, 1));
 }
 
 fn sessions() {
@@ -201,7 +202,7 @@ fn on_session(x: Session) {
     number(x.cushion as u64);
     number(x.buffer as u64);
     number(x.layout as u64);
-    answer(s.worst(4, 1));
+    answer(worst_time(s, 4, 1));
 }
 
 fn counts() {
@@ -224,7 +225,7 @@ fn with_counts(laid: usize, playing: usize) {
     io::write_all(STDOUT_FILENO, b"counts");
     number(laid as u64);
     number(playing as u64);
-    answer(s.worst(0, 1));
+    answer(worst_time(s, 0, 1));
 }
 
 // A show with several faults is refused for the first of 2, 5, 6, 7, 9, at the lowest place.
@@ -262,5 +263,5 @@ fn full() {
 fn asked(s: Show, i: usize) {
     io::write_all(STDOUT_FILENO, b"session");
     number(i as u64);
-    answer(s.worst(i, 1));
+    answer(worst_time(s, i, 1));
 }

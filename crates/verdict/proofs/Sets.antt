@@ -7,13 +7,13 @@ use native.Mathlib.Nat.{le-trans}
 use lib.ListN.{getD, set}
 use borrow.Author.Count.{below-more}
 use Rattle.drive.specs.declared.Show.{Show}
-use Rattle.drive.specs.declared.cost.Cost.{Cost}
 use Rattle.drive.specs.Limits.{ShowWithin, sessionAt}
-use Rattle.drive.specs.Bound.{Limited, worstTime}
 use Rattle.drive.specs.Lists.{listed, padded}
-use Rattle.drive.specs.Worst.{costOf, costsOf, noCost}
-use Rattle.drive.proofs.Costs.{cost-limited, costs-at}
 use Rattle.drive.proofs.Lists.{filled-more, filled-at, listed-same}
+use Rattle.cost.specs.declared.Cost.{Cost}
+use Rattle.cost.specs.Bound.{Limited, worstTime}
+use Rattle.cost.specs.Worst.{costOf, costsOf, noCost}
+use Rattle.cost.proofs.Costs.{cost-limited, costs-at}
 use Rattle.theory.specs.Sum.{sumTo}
 use Rattle.theory.specs.Counts.{Load, unit, roundTime, Good}
 use Rattle.theory.specs.Shows.{loadOf}

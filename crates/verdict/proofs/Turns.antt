@@ -7,10 +7,10 @@ use native.Mathlib.Omega.{arith}
 use lib.ListN.{getD}
 use borrow.Author.Count.{below-more}
 use Rattle.drive.specs.declared.Show.{Show}
-use Rattle.drive.specs.declared.cost.Cost.{Cost}
 use Rattle.drive.specs.Limits.{ShowWithin, sessionAt}
-use Rattle.drive.specs.Bound.{worstMost}
-use Rattle.drive.specs.Worst.{costsOf, noCost}
+use Rattle.cost.specs.declared.Cost.{Cost}
+use Rattle.cost.specs.Bound.{worstMost}
+use Rattle.cost.specs.Worst.{costsOf, noCost}
 use Rattle.theory.specs.Sum.{sumTo}
 use Rattle.theory.specs.Counts.{Accepted, needed, unit}
 use Rattle.theory.specs.Rounds.{asked, next, NotPast}

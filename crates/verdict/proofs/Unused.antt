@@ -4,14 +4,14 @@ use mathlib.Core.Path.{_≡_, sym, _∙_, ap, subst}
 use mathlib.Core.List.{List}
 use Rattle.drive.specs.declared.Drive.{Drive}
 use Rattle.drive.specs.declared.Show.{Show}
-use Rattle.drive.specs.declared.cost.Cost.{Cost}
 use Rattle.drive.specs.Limits.{ShowWithin, Alike}
 use Rattle.drive.specs.Lists.{listed, padded}
-use Rattle.drive.specs.Bound.{worstTime}
-use Rattle.drive.specs.Worst.{costOf}
-use Rattle.drive.proofs.Costs.{alike-cost}
 use Rattle.drive.proofs.Lists.{listed-same}
 use Rattle.drive.proofs.Shows.{check-within, within-check, alike-check}
+use Rattle.cost.specs.declared.Cost.{Cost}
+use Rattle.cost.specs.Bound.{worstTime}
+use Rattle.cost.specs.Worst.{costOf}
+use Rattle.cost.proofs.Costs.{alike-cost}
 use Rattle.theory.specs.Sum.{sumTo}
 use Rattle.theory.specs.Counts.{roundTime}
 use Rattle.theory.specs.Shows.{loadOf}

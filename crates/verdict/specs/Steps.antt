@@ -4,8 +4,8 @@ use mathlib.Core.Path.{_≡_}
 use Rattle.drive.specs.declared.Drive.{Drive}
 use Rattle.drive.specs.declared.Session.{Session}
 use Rattle.drive.specs.declared.Show.{Show}
-use Rattle.drive.specs.declared.cost.Cost.{Cost}
-use Rattle.drive.specs.Bound.{worstTime, Limited, worstMost}
+use Rattle.cost.specs.declared.Cost.{Cost}
+use Rattle.cost.specs.Bound.{worstTime, Limited, worstMost}
 use Rattle.theory.specs.Counts.{Load, Feasible, Accepted, roundTime}
 use Rattle.theory.specs.Rounds.{need, asked, Fits, LeastTime}
 use Rattle.theory.specs.Shows.{loadOf}

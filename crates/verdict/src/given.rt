@@ -2,7 +2,7 @@
 ghost use mathlib.Core.Path.{_≡_};
 ghost use Prim.Native.Nat.{_≤_, _<_};
 ghost use Rattle.drive.specs.Limits.{Tells, ShowWithin};
-ghost use Rattle.drive.specs.Worst.{costsOf};
+ghost use Rattle.cost.specs.Worst.{costsOf};
 ghost use Rattle.theory.specs.Shows.{loadOf};
 ghost use Rattle.verdict.specs.Answers.{setOf};
 ghost use Rattle.verdict.specs.Steps.{Short, Held, Holds, timedOf, givenMost};
@@ -11,9 +11,9 @@ use crate::round::fits;
 use crate::round::need;
 use crate::round::split;
 use crate::round::takes;
+use cost::Cost;
 use drive::Session;
 use drive::Show;
-use drive::cost::Cost;
 
 // L, and each session's worst time.
 pub(crate) struct Timed {

@@ -4,7 +4,7 @@ pub mod round;
 
 ghost use mathlib.Core.Path.{_≡_};
 ghost use Rattle.drive.specs.Limits.{ShowWithin};
-ghost use Rattle.drive.specs.Worst.{costsOf};
+ghost use Rattle.cost.specs.Worst.{costsOf};
 ghost use Rattle.theory.specs.Rounds.{asked};
 ghost use Rattle.theory.specs.Shows.{loadOf};
 ghost use Rattle.verdict.specs.Answers.{DecisionIs, TrialIs, acceptedWith, refusedFor};
@@ -14,8 +14,9 @@ use crate::given::times_of;
 use crate::round::Turn;
 use crate::round::counts;
 use crate::round::settle;
+use cost::Cost;
+use cost::costs_of;
 use drive::Show;
-use drive::cost::Cost;
 use drive::refusal::Check;
 use drive::refusal::Refusal;
 
@@ -54,7 +55,7 @@ pub fn decide(show: Show) -> Decision
     if let Check::Refused(why) = check {
         return refused(why);
     }
-    let costs = show.costs();
+    let costs = costs_of(show);
     let settled = settle(show, costs);
     let Turn::Takes(t) = settled else {
         return refused(Refusal::NoSet);
@@ -102,7 +103,7 @@ pub fn tried(show: Show, counts: [u32; 16]) -> Trial
             times: [0; 16],
         };
     }
-    let costs = show.costs();
+    let costs = costs_of(show);
     let timed = times_of(show, costs, counts);
     let times = timed.times;
     let round = timed.round;

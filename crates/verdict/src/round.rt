@@ -2,17 +2,17 @@
 ghost use mathlib.Core.Path.{_≡_};
 ghost use Prim.Native.Nat.{_*_, _≤_};
 ghost use Rattle.drive.specs.Limits.{Tells, ShowWithin};
-ghost use Rattle.drive.specs.Bound.{Limited, worstTime};
-ghost use Rattle.drive.specs.Worst.{costsOf};
+ghost use Rattle.cost.specs.Bound.{Limited, worstTime};
+ghost use Rattle.cost.specs.Worst.{costsOf};
 ghost use Rattle.theory.specs.Rounds.{asked};
 ghost use Rattle.theory.specs.Shows.{loadOf};
 ghost use Rattle.verdict.specs.Answers.{row};
 ghost use Rattle.verdict.specs.Steps.{spanOf, Short, askedOf, Room, Sharing, SharedAs, Settled, SettledAs, timeMost};
+use cost::Cost;
+use cost::Time;
 use drive::Drive;
 use drive::Session;
 use drive::Show;
-use drive::cost::Cost;
-use drive::cost::Time;
 
 // A time in units of A x 1,000,000: unit x whole + part. A rate times a time can pass 64 bits, a rate times these cannot.
 pub(crate) struct Span {

@@ -26,14 +26,14 @@ returns c =
 enum-told : tie.Need-enum-told
 enum-told c = search needs
 
-costs-requires : tie.Need-costs-requires
-costs-requires c κs = search needs
+costs-of-requires : tie.Need-costs-of-requires
+costs-of-requires c κs = search needs
 
 within : (c : tie.After-enum-told) → ShowWithin (c .before .before .before .args .show)
 within c = check-within _ (sym (c .before .before .check .ensures) ∙ c .enum-told .given .1)
 
 settle-requires : tie.Need-settle-requires
-settle-requires c κs = (within (c .before), c .costs .ensures)
+settle-requires c κs = (within (c .before), c .costs-of .ensures)
 
 enum-known-settled : tie.Need-enum-known-settled
 enum-known-settled c = search needs
@@ -53,7 +53,7 @@ settled-at : (c : tie.After-known-told2) → Settled (c .before .before .before 
 settled-at c = subst (SettledAs _) (c .before .settled .given .1) (c .before .before .before .settle .ensures)
 
 accepted-requires : tie.Need-accepted-requires
-accepted-requires c κs = (within (c .before .before .before .before .before), (c .before .before .before .before .costs .ensures, settled-at c))
+accepted-requires c κs = (within (c .before .before .before .before .before), (c .before .before .before .before .costs-of .ensures, settled-at c))
 
 returns-3 : tie.Need-returns-3
 returns-3 c =
@@ -71,7 +71,7 @@ decide-spec =
     refused-requires
     returns
     enum-told
-    costs-requires
+    costs-of-requires
     settle-requires
     enum-known-settled
     enum-told-2

@@ -22,14 +22,14 @@ returns c = untried _ (sym (c .before .before .before .check .ensures) ∙ c .be
 enum-told : tie.Need-enum-told
 enum-told c = search needs
 
-costs-requires : tie.Need-costs-requires
-costs-requires c κs = search needs
+costs-of-requires : tie.Need-costs-of-requires
+costs-of-requires c κs = search needs
 
 within : (c : tie.After-enum-told) → ShowWithin (c .before .before .before .args .show)
 within c = check-within _ (sym (c .before .before .check .ensures) ∙ c .enum-told .given .1)
 
 times-of-requires : tie.Need-times-of-requires
-times-of-requires c κs = (within (c .before), c .costs .ensures)
+times-of-requires c κs = (within (c .before), c .costs-of .ensures)
 
 holds-requires : tie.Need-holds-requires
 holds-requires c κs = (within (c .before .before .before), c .before .times-of .ensures .1)
@@ -52,7 +52,7 @@ tried-spec =
     enum-known-check
     returns
     enum-told
-    costs-requires
+    costs-of-requires
     times-of-requires
     holds-requires
     returns-2

@@ -3,8 +3,8 @@ use Prim.Native.Nat.{_-_, _<_}
 use mathlib.Core.Path.{_≡_, _∙_}
 use native.Mathlib.Omega.{arith}
 use borrow.Author.Needs.{needs}
-use Rattle.drive.specs.Bound.{countMost}
 use Rattle.drive.proofs.Lists.{filled-none}
+use Rattle.cost.specs.Bound.{countMost}
 use Rattle.theory.specs.Rounds.{asked}
 use Rattle.theory.specs.Shows.{loadOf}
 use Rattle.verdict.proofs.Spans.{span-asked, span-short}

@@ -4,9 +4,9 @@ use mathlib.Core.Path.{sym}
 use native.Mathlib.Omega.{arith}
 use borrow.Author.Needs.{needs}
 use borrow.Author.Tests.{not-true, not-false}
-use Rattle.drive.specs.Bound.{countMost}
-use Rattle.drive.proofs.Bound.{worst-capped}
 use Rattle.drive.proofs.Checks.{tells-yes, tells-no}
+use Rattle.cost.specs.Bound.{countMost}
+use Rattle.cost.proofs.Bound.{worst-capped}
 use Rattle.theory.proofs.Rounds.{count-capped}
 use Rattle.verdict.specs.Steps.{Room}
 use Rattle.verdict.proofs.round.share.Statement.{statement}

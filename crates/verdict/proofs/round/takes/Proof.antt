@@ -3,9 +3,9 @@ use Prim.Native.Nat.{ℕ}
 use mathlib.Core.Path.{_≡_, sym, _∙_}
 use native.Mathlib.Omega.{arith}
 use borrow.Author.Needs.{needs}
-use Rattle.drive.proofs.Bound.{worst-below}
-use Rattle.drive.proofs.Costs.{time-takes}
-use Rattle.drive.specs.declared.cost.Time.the-variants.{Takes, Beyond}
+use Rattle.cost.proofs.Bound.{worst-below}
+use Rattle.cost.proofs.Costs.{time-takes}
+use Rattle.cost.specs.declared.Time.the-variants.{Takes, Beyond}
 use Rattle.verdict.proofs.round.takes.Statement.{statement}
 use Rattle.verdict.proofs.round.takes.Tie as tie
 

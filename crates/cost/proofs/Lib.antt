@@ -1,0 +1,4 @@
+pub mod Ceil
+pub mod EdgeLaws
+pub mod Bound
+pub mod Costs
