@@ -58,5 +58,5 @@ pub record Spare : Type 0 where
       slackOf b .spare ≡ Time y → y ≤ℤ z
   -- The proviso is needed.
   pub proviso : Worse
-  -- Two runs of shows hold the smallest counts, whatever calls came between.
+  -- Every run of a show holds its smallest counts, whatever calls came before.
   pub smallest : (s : Show) (r : Run) → RunOf s r → Smallest (loadOf (r .show)) (setOf (r .counts))

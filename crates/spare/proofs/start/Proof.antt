@@ -1,10 +1,14 @@
 -- `start` refuses in order, or begins. Assumes nothing.
 use native.Mathlib.Omega.{arith}
+use Rattle.run.specs.Sound.{SoundRun}
 use Rattle.run.proofs.Tests.{tested-sound, tested-damaged}
 use Rattle.spare.proofs.Calls.{start-damaged, start-again, start-busy, start-empty, start-begins}
 use borrow.Author.Needs.{needs}
 use Rattle.spare.proofs.start.Tie as tie
 use Rattle.spare.proofs.start.Statement.{statement}
+
+sound : (c : tie.After-enum-told) → SoundRun (c .before .before .before .args .run)
+sound c = tested-sound _ _ (c .before .before .test-run .ensures) (c .enum-told .given .1)
 
 test-run-requires : tie.Need-test-run-requires
 test-run-requires c κs = search needs
@@ -19,7 +23,7 @@ returns : tie.Need-returns
 returns c = start-damaged _ (tested-damaged _ _ (c .before .before .test-run .ensures) (c .enum-told2 .given .1))
 
 returns-2 : tie.Need-returns-2
-returns-2 c = start-again _ (tested-sound _ _ (c .before .before .before .test-run .ensures) (c .before .enum-told .given .1)) (c .if1 .taken)
+returns-2 c = start-again _ (sound (c .before)) (c .if1 .taken)
 
 enum-told-3 : tie.Need-enum-told-3
 enum-told-3 c = search needs
@@ -28,16 +32,16 @@ enum-told-4 : tie.Need-enum-told-4
 enum-told-4 c = search needs
 
 returns-3 : tie.Need-returns-3
-returns-3 c = start-busy _ (tested-sound _ _ (c .before .before .before .before .before .test-run .ensures) (c .before .before .before .enum-told .given .1)) (c .before .before .if1 .left) _ (c .enum-told4 .given .1)
+returns-3 c = start-busy _ (sound (c .before .before .before)) (c .before .before .if1 .left) _ (c .enum-told4 .given .1)
 
 returns-4 : tie.Need-returns-4
-returns-4 c = start-empty _ (tested-sound _ _ (c .before .before .before .before .before .before .before .test-run .ensures) (c .before .before .before .before .before .enum-told .given .1)) (c .before .before .before .before .if1 .left) (c .before .before .enum-told3 .given .1) (c .if2 .taken)
+returns-4 c = start-empty _ (sound (c .before .before .before .before .before)) (c .before .before .before .before .if1 .left) (c .before .before .enum-told3 .given .1) (c .if2 .taken)
 
 begin-requires : tie.Need-begin-requires
-begin-requires c κs = ((tested-sound _ _ (c .before .before .before .before .before .before .before .test-run .ensures) (c .before .before .before .before .before .enum-told .given .1)), (let n = c .if2 .left in omega arith))
+begin-requires c κs = ((sound (c .before .before .before .before .before)), (let n = c .if2 .left in omega arith))
 
 returns-5 : tie.Need-returns-5
-returns-5 c = start-begins _ (tested-sound _ _ (c .before .before .before .before .before .before .before .before .test-run .ensures) (c .before .before .before .before .before .before .enum-told .given .1)) (c .before .before .before .before .before .if1 .left) (c .before .before .before .enum-told3 .given .1) _ (let n = c .before .if2 .left in omega arith) (c .begin .ensures)
+returns-5 c = start-begins _ (sound (c .before .before .before .before .before .before)) (c .before .before .before .before .before .if1 .left) (c .before .before .before .enum-told3 .given .1) _ (let n = c .before .if2 .left in omega arith) (c .begin .ensures)
 
 pub start-spec : {M : Type 1} → statement M
 start-spec =
