@@ -1,4 +1,4 @@
--- What a take answers, on one session's state: docs/RULES.md, section 9.
+-- What a take answers, on one session's state: docs/RULES.md, section 10.
 use Prim.Native.Nat.{ℕ, _-_}
 use mathlib.Core.Bool.{Bool}
 use native.Mathlib.Decide.{decLe}

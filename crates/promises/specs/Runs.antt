@@ -1,4 +1,4 @@
--- The laws of a run, over every call that there is: docs/RULES.md, section 9. proofs/Runs.antt proves them.
+-- The laws of a run, over every call that there is: docs/RULES.md, sections 9 and 10. proofs/Runs.antt proves them.
 use Prim.Native.Nat.{ℕ, _≤_, _<_}
 use mathlib.Core.Path.{_≡_}
 use mathlib.Core.Bool.{Bool, true, false}

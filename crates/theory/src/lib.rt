@@ -1,1 +1,1 @@
-// The mathematics of the verdict, over any worst time that has the laws: theorems, and no code.
+// The mathematics of the verdict and of spare time, over any worst time that has the laws: theorems, and no code.
