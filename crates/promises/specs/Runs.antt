@@ -17,7 +17,7 @@ use Rattle.run.specs.declared.Opened.{Opened}
 use Rattle.run.specs.Run.{playing, stateAt, clipAt, seatAt}
 use Rattle.run.specs.Sound.{StateSound, SoundRun}
 use Rattle.run.specs.Opening.{OpenIs}
-use Rattle.run.specs.Laws.{Ahead}
+use Rattle.run.specs.Laws.{Kept, Ahead}
 use Rattle.player.specs.Answers.{drawnOf}
 use Rattle.playback.specs.Answers.{passOf, takeOf, finishOf}
 use Rattle.scheduler.specs.declared.Choice.the-variants as choice
@@ -89,6 +89,11 @@ pub record Runs : Type 0 where
       (s : State) (x : Session) (b : Bool) (n : ℕ) (w : Refusal) → drawnOf s x b n .check ≡ Refused w → drawnOf s x b n .state ≡ s
   -- Unused places never change.
   pub after-unused : (r q : Run) → Sized r → After r q → Unused r q
+  -- None but start changes the order or whether a run has started.
+  pub pass-kept : (r : Run) (d : ℕ) → Kept r (passOf r d .run)
+  pub take-kept : (r : Run) (i n : ℕ) → Kept r (takeOf r i n .run)
+  pub choose-kept : (r : Run) → Kept r (chooseOf r .run)
+  pub finish-kept : (r : Run) (d : ℕ) → Sized r → Kept r (finishOf r d .run)
   -- Once started, a run stays started, and its cycle stays in the order of the start.
   pub order-fixed : (r q : Run) → Sized r → After r q → r .started ≡ true → (q .started ≡ true) × (q .order ≡ r .order)
   -- No order gives more slack.
