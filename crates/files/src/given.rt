@@ -1,185 +1,69 @@
 // What a line says: its fields, the bytes and numbers in them, a show. Where text is nothing of the kind, the answer is a number that is
 // too large for it.
-ghost use Prim.Native.Nat.{_*_, _<_, _≤_};
+ghost use Prim.Native.Nat.{_<_, _≤_};
 ghost use lib.ListN.{length};
 use drive::Drive;
 use drive::Layout;
 use drive::Session;
 use drive::Show;
+use figures::Number;
 
-// Where `b` stands first, from `at` on; the length where it does not.
-pub(crate) fn find(text: &[u8], at: usize, b: u8) -> usize
+// Where `mark` stands next, from `at` on; the length where it does not.
+pub(crate) fn next(text: &[u8], at: usize, mark: u8) -> usize
     requires { ⌜ at ≤ length (now text) ⌝ }
     ensures { λ r. ⌜ (at ≤ r) × (r ≤ length (now (text .entry))) ⌝ }
 {
-    let mut i = at;
-    while i < text.len() {
-        if text[i] == b {
-            return i;
-        }
-        i += 1;
-    }
-    i
+    let skipped = lines::find(&text[at..], mark);
+    at + skipped
 }
 
-pub(crate) fn count(text: &[u8], b: u8) -> usize {
-    let mut n = 0;
-    let mut i = 0;
-    while i < text.len() {
-        if text[i] == b {
-            n += 1;
-        }
-        i += 1;
-    }
-    n
-}
-
-pub(crate) fn same(a: &[u8], b: &[u8]) -> bool {
-    if a.len() != b.len() {
-        return false;
-    }
-    let mut i = 0;
-    while i < a.len() {
-        if a[i] != b[i] {
-            return false;
-        }
-        i += 1;
-    }
-    true
-}
-
-// The field after so many tabs; nothing where the line has fewer.
-pub(crate) fn field(line: &[u8], tabs: usize) -> &[u8] {
-    let mut at = 0;
-    let mut i = 0;
-    while i < tabs {
-        at = past(line, at, b'\t');
-        i += 1;
-    }
-    let end = find(line, at, b'\t');
-    &line[at..end]
-}
-
-// The place after the next `b`, or the end.
-fn past(text: &[u8], at: usize, b: u8) -> usize
-    requires { ⌜ at ≤ length (now text) ⌝ }
-    ensures { λ r. ⌜ r ≤ length (now (text .entry)) ⌝ }
-{
-    let end = find(text, at, b);
-    if end < text.len() {
-        return end + 1;
-    }
-    end
+// Counted from 0; a tab stands between two.
+pub(crate) fn field(line: &[u8], k: usize) -> &[u8] {
+    lines::part(line, b'\t', k)
 }
 
 // ---- bytes in hex
 
 const NO_BYTES: usize = 1_048_576;
 
-const NO_DIGIT: u32 = 256;
-
-// How many bytes were put into `out`; `NO_BYTES` where the text is not hex, or is too long.
-pub(crate) fn unhex(text: &[u8], out: &mut [u8]) -> usize {
-    if same(text, b"-") {
+// How many bytes the text has, put into `out`; none is `-`. `NO_BYTES` where the text is not hex in small letters.
+pub(crate) fn bytes_of(text: &[u8], out: &mut [u8]) -> usize {
+    if lines::same(text, b"-") {
         return 0;
     }
-    let n = text.len() / 2;
-    if n == 0 {
+    if capital(text) {
         return NO_BYTES;
     }
-    if text.len() != 2 * n {
+    let count = figures::unhex(text, out);
+    let Number::Is(n) = count else {
         return NO_BYTES;
-    }
-    if out.len() < n {
-        return NO_BYTES;
-    }
-    if decode(text, &mut out[0..n]) {
-        return n;
-    }
-    NO_BYTES
+    };
+    n as usize
 }
 
-// The bytes that `out` has room for, from as many pairs of digits; false where one is no pair of digits.
-fn decode(text: &[u8], out: &mut [u8]) -> bool
-    requires { ⌜ 2 * length (now out) ≤ length (now text) ⌝ }
-{
-    let mut i = 0;
-    while i < out.len() {
-        let b = pair(text[2 * i], text[2 * i + 1]);
-        if 255 < b {
-            return false;
+// Whether a digit of hex is a capital letter.
+fn capital(text: &[u8]) -> bool {
+    let mut b = b'A';
+    while b <= b'F' {
+        if lines::find(text, b) < text.len() {
+            return true;
         }
-        out[i] = b as u8;
-        i += 1;
+        b += 1;
     }
-    true
-}
-
-fn pair(high: u8, low: u8) -> u32 {
-    let h = digit(high);
-    let l = digit(low);
-    if h == NO_DIGIT {
-        return NO_DIGIT;
-    }
-    if l == NO_DIGIT {
-        return NO_DIGIT;
-    }
-    16 * h + l
-}
-
-// What a digit of hex counts.
-fn digit(b: u8) -> u32
-    ensures { λ r. ⌜ r ≤ 256 ⌝ }
-{
-    if b < b'0' {
-        return NO_DIGIT;
-    }
-    if b <= b'9' {
-        return (b - b'0') as u32;
-    }
-    if b < b'a' {
-        return NO_DIGIT;
-    }
-    if b <= b'f' {
-        return (b - b'a' + 10) as u32;
-    }
-    NO_DIGIT
+    false
 }
 
 // ---- numbers
 
 const NO_NUMBER: u64 = 4_294_967_296;
 
-// The number below 2^32 that the text is in decimal, or `NO_NUMBER`.
-pub(crate) fn decimal(text: &[u8]) -> u64 {
-    if text.len() == 0 {
+// The number that the text is in decimal, or `NO_NUMBER`: callers take those below it.
+pub(crate) fn number_of(text: &[u8]) -> u64 {
+    let number = figures::decimal(text);
+    let Number::Is(n) = number else {
         return NO_NUMBER;
-    }
-    let mut n = 0;
-    let mut i = 0;
-    while i < text.len() {
-        n = longer(n, text[i]);
-        i += 1;
-    }
+    };
     n
-}
-
-// The number with one digit more.
-fn longer(n: u64, b: u8) -> u64 {
-    if NO_NUMBER <= n {
-        return NO_NUMBER;
-    }
-    if b < b'0' {
-        return NO_NUMBER;
-    }
-    if b'9' < b {
-        return NO_NUMBER;
-    }
-    let more = 10 * n + (b - b'0') as u64;
-    if NO_NUMBER <= more {
-        return NO_NUMBER;
-    }
-    more
 }
 
 // ---- shows
@@ -218,9 +102,9 @@ fn item_at(text: &[u8], at: usize, end: u8) -> Item {
             next: at,
         };
     }
-    let to = find(text, at, end);
+    let to = next(text, at, end);
     Item {
-        value: decimal(&text[at..to]),
+        value: number_of(&text[at..to]),
         next: to + 1,
     }
 }

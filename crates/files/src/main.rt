@@ -11,14 +11,12 @@ mod told;
 
 ghost use Prim.Native.Nat.{_<_};
 ghost use lib.ListN.{length};
-use crate::given::count;
-use crate::given::decimal;
+use crate::given::bytes_of;
 use crate::given::field;
-use crate::given::find;
+use crate::given::next;
+use crate::given::number_of;
 use crate::given::numbers;
-use crate::given::same;
 use crate::given::show_of;
-use crate::given::unhex;
 use crate::told::fill;
 use crate::told::filled;
 use crate::told::hex;
@@ -35,7 +33,7 @@ use libc::STDIN_FILENO;
 fn main() {
     let mut text = room();
     let n = io::read_full(STDIN_FILENO, &mut text);
-    lines(&text[..n]);
+    cases(&text[..n]);
 }
 
 // Room for all of the input. Apart from `main`, whose proof then need not look at a million zeros.
@@ -43,7 +41,7 @@ fn room() -> [u8; 1_048_576] {
     [0; 1_048_576]
 }
 
-fn lines(text: &[u8]) {
+fn cases(text: &[u8]) {
     let mut at = 0;
     let mut place = 0;
     while at < text.len() {
@@ -57,7 +55,7 @@ fn line(text: &[u8], at: usize, place: usize) -> usize
     requires { ⌜ at < length (now text) ⌝ }
     ensures { λ r. ⌜ at < r ⌝ }
 {
-    let end = find(text, at, b'\n');
+    let end = next(text, at, b'\n');
     answer(&text[at..end], place);
     end + 1
 }
@@ -75,15 +73,15 @@ fn answer(line: &[u8], place: usize) {
 
 // False where the line is no case; then nothing is printed.
 fn case(line: &[u8], file: &mut [u8], buffer: &mut [u8]) -> bool {
-    let tabs = count(line, b'\t');
+    let fields = lines::parts(line, b'\t');
     let word = field(line, 0);
-    if tabs == 2 {
-        if same(word, b"read") {
+    if fields == 3 {
+        if lines::same(word, b"read") {
             return case_read(line, file, buffer);
         }
     }
-    if tabs == 4 {
-        if same(word, b"write") {
+    if fields == 5 {
+        if lines::same(word, b"write") {
             return case_write(line, file, buffer);
         }
     }
@@ -110,7 +108,7 @@ fn unlike(why: Refusal, second: Check) {
 // ---- reading
 
 fn case_read(line: &[u8], file: &mut [u8], buffer: &mut [u8]) -> bool {
-    let n = unhex(field(line, 2), file);
+    let n = bytes_of(field(line, 2), file);
     if file.len() < n {
         return false;
     }
@@ -169,7 +167,7 @@ fn copy(file: &[u8], buffer: &mut [u8]) {
     }
     say(b" ");
     number(wrote.len as u64);
-    if same(buffer, file) {
+    if lines::same(buffer, file) {
         say(b" same");
         return;
     }
@@ -204,11 +202,11 @@ fn unless_filled(buffer: &[u8]) {
 // ---- writing
 
 fn case_write(line: &[u8], note: &mut [u8], buffer: &mut [u8]) -> bool {
-    let n = unhex(field(line, 3), note);
+    let n = bytes_of(field(line, 3), note);
     if note.len() < n {
         return false;
     }
-    let room = decimal(field(line, 4)) as usize;
+    let room = number_of(field(line, 4)) as usize;
     if buffer.len() < room {
         return false;
     }
