@@ -17,7 +17,7 @@ use Rattle.run.specs.Run.{playing, stateAt, clipAt, withStates}
 use Rattle.run.specs.Sound.{SoundRun}
 use Rattle.run.specs.Steps.{passed, taken, landed}
 use Rattle.run.proofs.Steps.{passed-sound}
-use Rattle.run.proofs.Tests.{damaged-first, sound-then}
+use Rattle.run.proofs.Answered.{damaged-first, sound-then}
 use Rattle.player.specs.declared.Drawn.{Drawn}
 use Rattle.player.specs.Answers.{drawnOf}
 use Rattle.player.proofs.Takes.{take-sound}

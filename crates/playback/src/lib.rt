@@ -16,8 +16,8 @@ use run::Moved;
 use run::Run;
 use run::State;
 use run::Underway;
-use run::sound::Test;
-use run::sound::test_run;
+use sound::Test;
+use sound::test_run;
 
 // C of one session after d µs.
 fn tick(rate: u32, d: u64, state: State) -> State

@@ -1,12 +1,18 @@
 -- What a call answers by its check. Assumes nothing.
 use mathlib.Core.Path.{_≡_, refl, sym, ap, _∙_}
 use Rattle.drive.specs.declared.refusal.Refusal.{Refusal}
+use Rattle.drive.specs.declared.refusal.Refusal.the-variants.{Damaged}
 use Rattle.drive.specs.declared.refusal.Check.{Check}
 use Rattle.drive.specs.declared.refusal.Check.the-variants.{Within, Refused}
-use Rattle.drive.proofs.Checks.{within-refused}
+use Rattle.drive.specs.Checks.{first}
+use Rattle.drive.proofs.Checks.{within-refused, unless-kept, unless-broken, first-refused, first-within}
 use Rattle.run.specs.declared.Run.{Run}
 use Rattle.run.specs.declared.Moved.{Moved}
-use Rattle.run.specs.Answers.{moved}
+use Rattle.run.specs.declared.Underway.{Underway}
+use Rattle.run.specs.declared.Underway.the-variants.{Nothing, Read}
+use Rattle.run.specs.Sound.{SoundRun}
+use Rattle.run.specs.Decisions.{sound?, soundCheck}
+use Rattle.run.specs.Answers.{moved, freeCheck}
 
 abbrev pub granted : Run → Moved
 granted q = record { check = Within; run = q }
@@ -42,3 +48,17 @@ module _ (k : Check) (r next : Run) where
       from : (j : Check) → moved j r next .check ≡ Refused w → moved j r next .run ≡ r
       from Within f = within-refused f
       from (Refused v) f = refl
+
+-- ---- 19 comes first
+
+module _ (r : Run) (c : Check) where
+  pub damaged-first : (SoundRun r → ⊥) → first (soundCheck r) c ≡ Refused Damaged
+  damaged-first n = first-refused _ c (unless-broken (sound? r) Damaged n)
+
+  pub sound-then : SoundRun r → first (soundCheck r) c ≡ c
+  sound-then s = first-within _ c (unless-kept (sound? r) Damaged s)
+
+-- Nothing is under way where 13 is not given.
+pub free-nothing : (u : Underway) → freeCheck u ≡ Within → u ≡ Nothing
+free-nothing Nothing e = refl
+free-nothing (Read i) e = within-refused (sym e)

@@ -5,8 +5,6 @@ pub mod Changed
 pub mod Searches
 pub mod Steps
 pub mod Seats
-pub mod Named
-pub mod Tests
 pub mod Begins
 pub mod Full
 pub mod Rest

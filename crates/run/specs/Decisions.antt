@@ -3,7 +3,7 @@
 use Prim.Native.Nat.{ℕ, zero, suc, _<_}
 use mathlib.Core.Path.{_≡_, refl, sym, subst, _∙_}
 use mathlib.Core.Bool.{Bool, true, false}
-use mathlib.Core.Logic.{Dec·and, ite}
+use mathlib.Core.Logic.{Dec·and}
 use mathlib.Core.List.{List}
 use native.Mathlib.Decide.{decLe, decLt, ℕ-discrete}
 use native.Mathlib.Omega.{arith}
@@ -22,8 +22,6 @@ use Rattle.run.specs.declared.State.{State}
 use Rattle.run.specs.declared.Underway.{Underway}
 use Rattle.run.specs.declared.Underway.the-variants.{Nothing, Read}
 use Rattle.run.specs.declared.Run.{Run}
-use Rattle.run.specs.declared.sound.Test.{Test}
-use Rattle.run.specs.declared.sound.Test.the-variants as test
 use Rattle.run.specs.Run.{playing, clipAt, stateAt, PutAt, RoomAt}
 use Rattle.run.specs.Sound.{Waiting, StateSound, NamedOnce, Turning, Resting, MayRead, CycleSound, SoundRun}
 
@@ -146,10 +144,6 @@ sound? r =
     (Dec·and (good? (loadOf (r .show)) (setOf (r .counts)))
     (Dec·and (below? (λ i. state? (r .started) (clipAt r i) (stateAt r i)) (playing r))
     (Dec·and (below? (named? (r .order) (playing r)) (playing r)) (cycle? r)))))
-
--- what the test of a record answers
-abbrev pub testOf : Run → Test
-testOf r = ite (sound? r) test.Sound test.Damaged
 
 -- 19
 abbrev pub soundCheck : Run → Check

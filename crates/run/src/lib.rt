@@ -1,6 +1,4 @@
-// A run: what the server keeps of a show that plays, its opening, and the test of its record.
-pub mod sound;
-
+// A run: what the server keeps of a show that plays, and its opening.
 ghost use mathlib.Core.Path.{_≡_};
 ghost use Prim.Native.Nat.{_≤_};
 ghost use Rattle.drive.specs.Limits.{Tells};

@@ -13,7 +13,7 @@ use Rattle.run.specs.Run.{playing}
 use Rattle.run.specs.Sound.{SoundRun}
 use Rattle.run.specs.Answers.{freeCheck}
 use Rattle.run.specs.Steps.{skipped, idled}
-use Rattle.run.proofs.Tests.{damaged-first, sound-then}
+use Rattle.run.proofs.Answered.{damaged-first, sound-then}
 use Rattle.scheduler.specs.declared.Choice.the-variants as choice
 use Rattle.scheduler.specs.declared.Chosen.{Chosen}
 use Rattle.scheduler.specs.Answers.{chosen, arrived, nextOf, chooseCheck, chosenBy, chooseOf}

@@ -19,7 +19,7 @@ use Rattle.run.specs.Steps.{skipped, idled, begun}
 use Rattle.run.specs.Laws.{Kept, Ahead}
 use Rattle.run.proofs.Searches.{skipped-room}
 use Rattle.run.proofs.Steps.{ite-either, idled-sound, begun-sound}
-use Rattle.run.proofs.Tests.{free-nothing}
+use Rattle.run.proofs.Answered.{free-nothing}
 use Rattle.run.proofs.Full.{idle-full}
 use Rattle.run.proofs.Rest.{same-kept, idled-kept, begun-kept}
 use Rattle.scheduler.specs.declared.Choice.the-variants as choice
@@ -76,10 +76,10 @@ choice-kept r c (read l p) = begun-kept r (skipped r)
 pub choose-kept : (r : Run) → Kept r (chooseOf r .run)
 choose-kept r = choice-kept r (chooseOf r) (answered r)
 
-idle-refused : {X : Type 0} {w : Refusal} → choice.Idle ≡ choice.Refused w → X
+pub idle-refused : {X : Type 0} {w : Refusal} → choice.Idle ≡ choice.Refused w → X
 idle-refused e = let z : _≡_ {A = ℕ} 0 1 = cc in absurd (let f : ⊥ = omega arith in f)
 
-read-refused : {X : Type 0} {i : ℕ} {w : Refusal} → choice.Read i ≡ choice.Refused w → X
+pub read-refused : {X : Type 0} {i : ℕ} {w : Refusal} → choice.Read i ≡ choice.Refused w → X
 read-refused e = let z : _≡_ {A = ℕ} 0 1 = cc in absurd (let f : ⊥ = omega arith in f)
 
 read-idle : {X : Type 0} {i : ℕ} → choice.Read i ≡ choice.Idle → X

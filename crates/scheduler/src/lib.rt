@@ -9,8 +9,8 @@ use crate::cycle::skips;
 use drive::refusal::Refusal;
 use run::Run;
 use run::Underway;
-use run::sound::Test;
-use run::sound::test_run;
+use sound::Test;
+use sound::test_run;
 
 // What to read next.
 pub enum Choice {

@@ -25,7 +25,7 @@ use Rattle.run.specs.Decisions.{false?}
 use Rattle.run.specs.Answers.{moved, freeCheck}
 use Rattle.run.proofs.States.{true-false}
 use Rattle.run.proofs.Orders.{names-below}
-use Rattle.run.proofs.Tests.{damaged-first, sound-then}
+use Rattle.run.proofs.Answered.{damaged-first, sound-then}
 use Rattle.run.specs.declared.Moved.{Moved}
 use Rattle.run.proofs.Answered.{granted, refused, moved-refused, moved-granted}
 use Rattle.spare.specs.declared.Spare.the-variants as spare

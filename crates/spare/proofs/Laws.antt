@@ -27,7 +27,7 @@ use Rattle.run.specs.Answers.{moved, sessionCheck, freeCheck}
 use Rattle.run.specs.Laws.{Ahead}
 use Rattle.run.proofs.States.{true-false}
 use Rattle.run.proofs.Steps.{nothing-read}
-use Rattle.run.proofs.Tests.{free-nothing}
+use Rattle.run.proofs.Answered.{free-nothing}
 use Rattle.run.specs.declared.Moved.{Moved}
 use Rattle.spare.specs.declared.Spare.the-variants as spare
 use Rattle.run.proofs.Answered.{moved-either, moved-back}

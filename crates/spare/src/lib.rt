@@ -20,8 +20,8 @@ use drive::refusal::Refusal;
 use run::Moved;
 use run::Run;
 use run::Underway;
-use run::sound::Test;
-use run::sound::test_run;
+use sound::Test;
+use sound::test_run;
 
 // A time in µs, which may be below zero, or why there is none.
 pub enum Spare {

@@ -2,7 +2,7 @@
 use mathlib.Core.Path.{_≡_}
 use lib.ListN.{length}
 use Rattle.drive.proofs.Lists.{unmapped}
-use Rattle.run.proofs.Tests.{tested-sound, tested-damaged}
+use Rattle.sound.proofs.Tests.{tested-sound, tested-damaged}
 use Rattle.playback.proofs.Calls.{finish-damaged, finish-long, finish-nothing, finish-granted, passed-reads}
 use borrow.Author.Needs.{needs}
 use Rattle.playback.proofs.finish.Statement.{statement}

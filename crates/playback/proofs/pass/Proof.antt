@@ -1,5 +1,5 @@
 -- `pass` lets time go by. Assumes nothing.
-use Rattle.run.proofs.Tests.{tested-sound, tested-damaged}
+use Rattle.sound.proofs.Tests.{tested-sound, tested-damaged}
 use Rattle.playback.proofs.Calls.{pass-damaged, pass-long, pass-granted}
 use borrow.Author.Needs.{needs}
 use Rattle.playback.proofs.pass.Statement.{statement}

@@ -1,7 +1,7 @@
 -- `choose` answers the next read, or Idle. Assumes nothing.
 use mathlib.Core.Path.{_∙_, ap}
 use native.Mathlib.Omega.{arith}
-use Rattle.run.proofs.Tests.{tested-sound, tested-damaged}
+use Rattle.sound.proofs.Tests.{tested-sound, tested-damaged}
 use Rattle.run.proofs.Seats.{sound-seated}
 use Rattle.scheduler.specs.Answers.{arrived}
 use Rattle.scheduler.proofs.Calls.{choose-damaged, choose-busy, choose-empty, choose-idle, choose-next}

@@ -3,8 +3,8 @@ use native.Mathlib.Omega.{arith}
 use borrow.Author.Tests.{not-true, not-false}
 use Rattle.drive.proofs.Checks.{tells-yes, tells-no}
 use borrow.Author.Needs.{needs}
-use Rattle.run.proofs.sound.takes_one.Statement.{statement}
-use Rattle.run.proofs.sound.takes_one.Tie as tie
+use Rattle.sound.proofs.takes_one.Statement.{statement}
+use Rattle.sound.proofs.takes_one.Tie as tie
 
 room-requires : tie.Need-room-requires
 room-requires c κs = search needs

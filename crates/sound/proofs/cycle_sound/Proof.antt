@@ -1,12 +1,12 @@
 -- `cycle_sound` tells whether the cycle is where it can be. Assumes nothing.
 use Prim.Native.Nat.{_<_}
 use native.Mathlib.Omega.{arith}
 use Rattle.run.specs.Run.{seatAt}
 use Rattle.run.proofs.Orders.{names-below}
-use Rattle.run.proofs.Tests.{cycle-rests, cycle-past, cycle-spent, cycle-over, cycle-free, cycle-other, cycle-reads}
+use Rattle.sound.proofs.Tests.{cycle-rests, cycle-past, cycle-spent, cycle-over, cycle-free, cycle-other, cycle-reads}
 use borrow.Author.Needs.{needs}
-use Rattle.run.proofs.sound.cycle_sound.Statement.{statement}
-use Rattle.run.proofs.sound.cycle_sound.Tie as tie
+use Rattle.sound.proofs.cycle_sound.Statement.{statement}
+use Rattle.sound.proofs.cycle_sound.Tie as tie
 
 rests-requires : tie.Need-rests-requires
 rests-requires c κs = search needs

@@ -1,14 +1,14 @@
-// The test of refusal 19: whether a run record is sound.
+// The test of refusal 19: whether a run record is sound. docs/RULES.md, section 9.
 ghost use mathlib.Core.Path.{_≡_};
 ghost use Prim.Native.Nat.{_+_, _≤_};
 ghost use Rattle.drive.specs.Limits.{Tells};
 ghost use Rattle.run.specs.Run.{Room, putMost};
 ghost use Rattle.run.specs.Sound.{StatesSound, NamesEach, Resting, CycleSound};
-ghost use Rattle.run.specs.Decisions.{testOf};
-use crate::Run;
-use crate::State;
-use crate::Underway;
+ghost use Rattle.sound.specs.Answers.{testOf};
 use drive::Session;
+use run::Run;
+use run::State;
+use run::Underway;
 use verdict::Answer;
 use verdict::tried;
 

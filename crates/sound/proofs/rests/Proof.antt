@@ -1,9 +1,9 @@
 -- `rests` tells whether a cycle of nobody is at its beginning. Assumes nothing.
 use mathlib.Core.Path.{sym, _∙_}
 use Rattle.run.proofs.Steps.{nothing-read}
 use borrow.Author.Needs.{needs}
-use Rattle.run.proofs.sound.rests.Statement.{statement}
-use Rattle.run.proofs.sound.rests.Tie as tie
+use Rattle.sound.proofs.rests.Statement.{statement}
+use Rattle.sound.proofs.rests.Tie as tie
 
 returns : tie.Need-returns
 returns c = search needs

@@ -7,28 +7,22 @@ use mathlib.Core.Logic.{if-pos, if-neg}
 use native.Mathlib.Omega.{arith}
 use borrow.Author.Count.{below-more}
 use Rattle.drive.specs.declared.Show.{Show}
-use Rattle.drive.specs.declared.refusal.Refusal.the-variants.{Damaged}
-use Rattle.drive.specs.declared.refusal.Check.{Check}
-use Rattle.drive.specs.declared.refusal.Check.the-variants.{Within, Refused}
-use Rattle.drive.specs.Checks.{first}
 use Rattle.drive.specs.Limits.{Tells, ShowWithin}
-use Rattle.drive.proofs.Checks.{within-refused, unless-kept, unless-broken, first-refused, first-within}
 use Rattle.theory.specs.Counts.{Good}
 use Rattle.theory.specs.Shows.{loadOf}
 use Rattle.verdict.specs.declared.Answer.the-variants as answer
 use Rattle.verdict.specs.declared.Trial.{Trial}
 use Rattle.verdict.specs.Answers.{TrialIs, holds, fails, untried, setOf}
 use Rattle.verdict.proofs.Once.{within-outside}
 use Rattle.run.specs.declared.Run.{Run}
-use Rattle.run.specs.declared.Underway.{Underway}
 use Rattle.run.specs.declared.Underway.the-variants.{Nothing, Read}
 use Rattle.run.specs.Run.{playing, clipAt, stateAt, seatAt, wholeAt, RoomAt, PutAt}
 use Rattle.run.proofs.Steps.{nothing-read}
 use Rattle.run.specs.Sound.{StateSound, StatesSound, Resting, Turning, MayRead, CycleSound, SoundRun}
-use Rattle.run.specs.declared.sound.Test.{Test}
-use Rattle.run.specs.declared.sound.Test.the-variants as test
-use Rattle.run.specs.Decisions.{sound?, testOf, soundCheck}
-use Rattle.run.specs.Answers.{freeCheck}
+use Rattle.run.specs.Decisions.{sound?}
+use Rattle.sound.specs.declared.Test.{Test}
+use Rattle.sound.specs.declared.Test.the-variants as test
+use Rattle.sound.specs.Answers.{testOf}
 
 -- ---- the counts
 
@@ -132,17 +126,3 @@ tested-sound r t e f =
 
 pub tested-damaged : (r : Run) (t : Test) → t ≡ testOf r → t ≡ test.Damaged → SoundRun r → ⊥
 tested-damaged r t e f s = sound-damaged (test-sound r s ∙ sym e ∙ f)
-
--- ---- 19 comes first
-
-module _ (r : Run) (c : Check) where
-  pub damaged-first : (SoundRun r → ⊥) → first (soundCheck r) c ≡ Refused Damaged
-  damaged-first n = first-refused _ c (unless-broken (sound? r) Damaged n)
-
-  pub sound-then : SoundRun r → first (soundCheck r) c ≡ c
-  sound-then s = first-within _ c (unless-kept (sound? r) Damaged s)
-
--- Nothing is under way where 13 is not given.
-pub free-nothing : (u : Underway) → freeCheck u ≡ Within → u ≡ Nothing
-free-nothing Nothing e = refl
-free-nothing (Read i) e = within-refused (sym e)

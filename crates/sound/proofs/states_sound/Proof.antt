@@ -3,10 +3,10 @@ use Prim.Native.Nat.{_-_}
 use native.Mathlib.Omega.{arith}
 use borrow.Author.Tests.{not-true, not-false}
 use Rattle.drive.proofs.Checks.{tells-yes, tells-no}
-use Rattle.run.proofs.Tests.{StatesTo, states-none, states-more, states-all}
+use Rattle.sound.proofs.Tests.{StatesTo, states-none, states-more, states-all}
 use borrow.Author.Needs.{needs}
-use Rattle.run.proofs.sound.states_sound.Statement.{statement}
-use Rattle.run.proofs.sound.states_sound.Tie as tie
+use Rattle.sound.proofs.states_sound.Statement.{statement}
+use Rattle.sound.proofs.states_sound.Tie as tie
 
 abbrev Inv-loop : tie.InvT-loop
 Inv-loop run show i₀ i = StatesTo run i

@@ -7,11 +7,11 @@ use Rattle.drive.proofs.Checks.{tells-yes, tells-no}
 use Rattle.theory.specs.Counts.{Good}
 use Rattle.theory.specs.Shows.{loadOf}
 use Rattle.verdict.specs.Answers.{setOf}
 use Rattle.run.specs.Sound.{StatesSound, NamesEach}
-use Rattle.run.proofs.Tests.{trial-good, trial-bad, test-sound, test-damaged}
+use Rattle.sound.proofs.Tests.{trial-good, trial-bad, test-sound, test-damaged}
 use borrow.Author.Needs.{needs}
-use Rattle.run.proofs.sound.test_run.Statement.{statement}
-use Rattle.run.proofs.sound.test_run.Tie as tie
+use Rattle.sound.proofs.test_run.Statement.{statement}
+use Rattle.sound.proofs.test_run.Tie as tie
 
 tried-requires : tie.Need-tried-requires
 tried-requires c κs = search needs

@@ -1,10 +1,10 @@
 -- `names_each` tells whether an order names each session once. Invariant: the first k places do, and are marked; what falls: playing - k. Assumes nothing.
 use Prim.Native.Nat.{_-_}
 use native.Mathlib.Omega.{arith}
-use Rattle.run.proofs.Named.{NamedTo, named-none, named-past, named-twice, named-more, named-all}
+use Rattle.sound.proofs.Named.{NamedTo, named-none, named-past, named-twice, named-more, named-all}
 use borrow.Author.Needs.{needs}
-use Rattle.run.proofs.sound.names_each.Statement.{statement}
-use Rattle.run.proofs.sound.names_each.Tie as tie
+use Rattle.sound.proofs.names_each.Statement.{statement}
+use Rattle.sound.proofs.names_each.Tie as tie
 
 abbrev Inv-loop : tie.InvT-loop
 Inv-loop playing order named₀ k₀ named k = NamedTo order playing named k
