@@ -3,6 +3,14 @@ pub mod Table
 pub mod Trips
 pub mod Verdict
 pub mod Lighter
+pub mod Printed
 pub mod Reports
 pub mod Runs
+pub mod Says
+pub mod Order
+pub mod Refusals
 pub mod Spare
+pub mod SpareTime
+pub mod Answered
+pub mod Unseen
+pub mod Demands

@@ -30,12 +30,12 @@ use Rattle.verdict.proofs.Unused.{alike-decision}
 use Rattle.report.specs.Text.{digits, decimal, refusedText, sessionLines, acceptedText}
 use Rattle.report.specs.Answers.{TextIs}
 use Rattle.report.proofs.Numerals.{decimal-numeral}
-use Rattle.report.proofs.Texts.{told-yes, told-no, text-once}
+use Rattle.report.proofs.Texts.{told-yes, told-no}
 use Rattle.report.proofs.Sizes.{text-most}
-use Rattle.report.proofs.Reports.{report-once}
 use Rattle.promises.specs.Numbers.{X, Z, clip, showOf}
 use Rattle.promises.specs.Files.{Shaped}
 use Rattle.promises.specs.Reports.{Reports}
+use Rattle.promises.proofs.Printed.{read-back}
 use Rattle.promises.proofs.Table.{table}
 use Rattle.promises.proofs.Trips.{trips}
 
@@ -45,17 +45,17 @@ module _ (x : Show) (note : List ℕ) (shaped : Shaped x) (w : ShowWithin x) (h 
   abbrev got : Reading
   got = reading Within (zeroed x) (length note)
 
-  read-back : got ≡ readOf (fileOf x note)
-  read-back = sym (file-read x note (shaped .layouts) (shaped .sessions) w h)
+  as-read : got ≡ readOf (fileOf x note)
+  as-read = sym (file-read x note (shaped .layouts) (shaped .sessions) w h)
 
   again : DecisionIs (zeroed x) d
   again = alike-decision x (zeroed x) (trips .read-again x note shaped w h .alike) d is
 
   yes-told : d .verdict ≡ verdict.Accepted → TextIs (fileOf x note) (acceptedText (loadOf (zeroed x)) (setOf (d .counts)))
-  yes-told e = told-yes (fileOf x note) got read-back refl d again e .told
+  yes-told e = told-yes (fileOf x note) got as-read refl d again e .told
 
   no-told : (v : Refusal) → d .verdict ≡ verdict.Refused v → TextIs (fileOf x note) (refusedText v)
-  no-told v e = told-no (fileOf x note) got read-back refl d v again e
+  no-told v e = told-no (fileOf x note) got as-read refl d v again e
 
 pub reports : Reports
 unfolding showCheck firstBelow counts? drive? layout? session? decLt costOf worstTime edges ceil sumTo listed padded zeroed fileOf digits decimal sessionLines wordBytes halfBytes fourBytes rowBytes layoutBytes sessionBytes trailerBytes trailerFor
@@ -67,8 +67,7 @@ reports =
       hundred =
           no-told (showOf Z (replicate 10 clip)) [] (record { layouts = refl; sessions = refl }) (check-within _ refl) (omega arith) _
           (table .p6 .hundred (λ _. 200000000) (λ i h. omega arith)) NoSet refl;
-      one-text = text-once;
-      one-report = report-once;
       numbers = decimal-numeral;
+      read-back = read-back;
       most = text-most;
     }

@@ -25,7 +25,6 @@ use Rattle.run.specs.Steps.{idled}
 use Rattle.run.specs.Opening.{OpenIs, firstRun}
 use Rattle.run.specs.Laws.{Kept}
 use Rattle.run.proofs.States.{true-false}
-use Rattle.run.proofs.Opening.{open-once}
 use Rattle.run.proofs.Begins.{opened-begins, opened-sound, opened-show, table-length}
 use Rattle.run.proofs.Rest.{same-kept}
 use Rattle.run.proofs.Steps.{idled-sound}
@@ -42,7 +41,7 @@ use Rattle.spare.specs.Answers.{startOf}
 use Rattle.spare.specs.Laws.{Started}
 use Rattle.spare.proofs.Calls.{workahead-damaged, slack-damaged, start-damaged}
 use Rattle.spare.proofs.Laws.{workahead-run, slack-run, slack-most, slack-told, start-sound, start-refused, start-fresh, start-granted, far-starts}
-use Rattle.promises.specs.Runs.{Sized, After, pass, take, choose, finish, workahead, slack, start, RunOf, opened, called, Unused, Runs}
+use Rattle.promises.specs.Runs.{Sized, After, pass, take, choose, finish, workahead, slack, start, RunOf, opened, called, HandsBack, Unused, Runs}
 
 few : (r : Run) → Sized r → SoundRun r → playing r ≤ length (r .states)
 few r n s = let h = s .within .counts .sessions in let k = n .states in omega arith
@@ -145,21 +144,27 @@ idle-starts r s l f e =
     rw (idle-run r e l)
     (far-starts (idled r) (idled-sound r s l) l (choose-ahead r s e) f (idle-free r e))
 
+pub hands-back : HandsBack
+hands-back =
+    record {
+      pass = pass-refused;
+      take = take-refused;
+      choose = choose-refused;
+      finish = finish-refused;
+      start = start-refused;
+      workahead = workahead-run;
+      slack = slack-run;
+      player = refused-back;
+    }
+
 pub runs : Runs
 runs =
     record {
       opened-sound = opened-sound;
       opened-show = opened-show;
-      one-opening = open-once;
       after-sound = after-sound;
       always-sound = λ s r h. (let x = always s r h in (x .sound, x .show));
-      pass-refused = pass-refused;
-      take-refused = take-refused;
-      choose-refused = choose-refused;
-      finish-refused = finish-refused;
-      start-refused = start-refused;
-      workahead-back = workahead-run;
-      slack-back = slack-run;
+      refused = hands-back;
       damaged-stays =
           λ r n.
           record {
@@ -173,7 +178,6 @@ runs =
           };
       player-agrees = take-players;
       player-sound = granted-sound;
-      player-refused = refused-back;
       after-unused = λ r q n a. leaves-unused r q (after-leaves r q n a);
       pass-kept = pass-kept;
       take-kept = take-kept;

@@ -1,5 +1,5 @@
 -- Spare time: lighter runs, by the laws of lighter runs; and two opened runs that show the proviso is needed. Assumes nothing.
-use Prim.Native.Nat.{ℕ, _≤_, _<_}
+use Prim.Native.Nat.{ℕ, _<_}
 use mathlib.Core.Path.{_≡_, sym, subst}
 use lib.IntN.{ℤ}
 use lib.Signed.{_≤ℤ_}

@@ -7,7 +7,6 @@ use Rattle.theory.specs.Shows.{loadOf}
 use Rattle.theory.proofs.Rounds.{smallest-same, round-same}
 use Rattle.verdict.specs.Answers.{acceptedWith, setOf}
 use Rattle.verdict.proofs.Sets.{set-of-row}
-use Rattle.verdict.proofs.Once.{decision-once, trial-once}
 use Rattle.verdict.proofs.Decisions.{accepted-set, accepted-exactly}
 use Rattle.verdict.proofs.Unused.{alike-decision, alike-trial}
 use Rattle.promises.specs.Verdict.{SmallestSet, Verdicts}
@@ -30,8 +29,6 @@ verdicts =
     record {
       accepted-exactly = accepted-exactly;
       told = λ s d h e. (let a = accepted-set s d h e in subst (SmallestSet s) (sym (a .answer)) (told-of s (a .set) (a .smallest)));
-      one-decision = decision-once;
-      one-trial = trial-once;
       unused = alike-decision;
       unused-tried = alike-trial;
     }

@@ -4,3 +4,8 @@ pub mod Verdict
 pub mod Lighter
 pub mod Reports
 pub mod Runs
+pub mod Refusals
+pub mod SpareTime
+pub mod Answered
+pub mod Unseen
+pub mod Demands

@@ -3,12 +3,13 @@ use Prim.Native.Nat.{ℕ, _^_, _≤_, _<_}
 use mathlib.Core.Path.{_≡_}
 use mathlib.Core.List.{List, []}
 use lib.ListN.{length, replicate}
-use Rattle.showfile.specs.declared.Written.{Written}
 use Rattle.showfile.specs.File.{fileOf}
 use Rattle.report.specs.Ascii.{ascii}
 use Rattle.report.specs.Text.{decimal}
 use Rattle.report.specs.Numerals.{Numeral}
-use Rattle.report.specs.Answers.{TextIs, ReportIs, textMost}
+use Rattle.report.specs.Answers.{TextIs, textMost}
+use Rattle.figures.specs.declared.Number.the-variants.{Is}
+use Rattle.figures.specs.Numbers.{numberOf}
 use Rattle.promises.specs.Numbers.{X, Z, clip, showOf}
 
 -- p3 with no note
@@ -22,11 +23,8 @@ pub record Reports : Type 0 where
   -- an empty show is a yes; an even hundred per cent is a no
   pub empty : TextIs (fileOf (showOf X []) []) (ascii "accepted 0 0\n")
   pub hundred : TextIs (fileOf (showOf Z (replicate 10 clip)) []) (ascii "refused 8 0\n")
-  -- two texts that meet the statement are equal, and two reports, in what they answer and in every byte
-  pub one-text : (f t u : List ℕ) → TextIs f t → TextIs f u → t ≡ u
-  pub one-report :
-      (f b : List ℕ) (r s : Written) (x y : List ℕ) → ReportIs f b r x → ReportIs f b s y → (r ≡ s) × (x ≡ y)
-  -- a number is told by its digits
+  -- a number is told by its digits, and a program that reads them has that number again
   pub numbers : (n : ℕ) → n < 2 ^ 64 → Numeral n (decimal n)
+  pub read-back : (n : ℕ) → n < 2 ^ 64 → numberOf (decimal n) ≡ Is n
   -- no text has more bytes
   pub most : (f t : List ℕ) → TextIs f t → length t ≤ textMost

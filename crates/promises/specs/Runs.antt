@@ -46,6 +46,18 @@ pub data RunOf (s : Show) : Run → Type 0 where
   opened : (o : Opened) → OpenIs s o → o .check ≡ Within → RunOf s (o .run)
   called : (r q : Run) → RunOf s r → After r q → RunOf s q
 
+-- After a refusal the run is what it was, and so is a state that was lent; workahead and slack change nothing at all.
+pub record HandsBack : Type 0 where
+  pub pass : (r : Run) (d : ℕ) (w : Refusal) → passOf r d .check ≡ Refused w → passOf r d .run ≡ r
+  pub take : (r : Run) (i n : ℕ) (w : Refusal) → takeOf r i n .check ≡ Refused w → takeOf r i n .run ≡ r
+  pub choose : (r : Run) (w : Refusal) → chooseOf r .choice ≡ choice.Refused w → chooseOf r .run ≡ r
+  pub finish : (r : Run) (d : ℕ) (w : Refusal) → finishOf r d .check ≡ Refused w → finishOf r d .run ≡ r
+  pub start : (r : Run) (w : Refusal) → startOf r .check ≡ Refused w → startOf r .run ≡ r
+  pub workahead : (r : Run) (i : ℕ) → workaheadOf r i .run ≡ r
+  pub slack : (r : Run) → slackOf r .run ≡ r
+  pub player :
+      (s : State) (x : Session) (b : Bool) (n : ℕ) (w : Refusal) → drawnOf s x b n .check ≡ Refused w → drawnOf s x b n .state ≡ s
+
 -- A damaged run: every call says 19 and hands it back.
 pub record Stays (r : Run) : Type 0 where
   pub pass : (d : ℕ) → passOf r d ≡ record { check = Refused Damaged; run = r }
@@ -67,26 +79,17 @@ pub record Runs : Type 0 where
   -- An opened run is sound, and is of the show as it was given.
   pub opened-sound : (s : Show) (o : Opened) → OpenIs s o → o .check ≡ Within → SoundRun (o .run)
   pub opened-show : (s : Show) (o : Opened) → OpenIs s o → o .check ≡ Within → o .run .show ≡ s
-  pub one-opening : (s : Show) (a b : Opened) → OpenIs s a → OpenIs s b → a ≡ b
   -- A call on a sound run makes a sound run; so every run of a show is sound, and of that show.
   pub after-sound : (r q : Run) → Sized r → SoundRun r → After r q → SoundRun q
   pub always-sound : (s : Show) (r : Run) → RunOf s r → SoundRun r × (r .show ≡ s)
-  -- A refused call gives the run it was given.
-  pub pass-refused : (r : Run) (d : ℕ) (w : Refusal) → passOf r d .check ≡ Refused w → passOf r d .run ≡ r
-  pub take-refused : (r : Run) (i n : ℕ) (w : Refusal) → takeOf r i n .check ≡ Refused w → takeOf r i n .run ≡ r
-  pub choose-refused : (r : Run) (w : Refusal) → chooseOf r .choice ≡ choice.Refused w → chooseOf r .run ≡ r
-  pub finish-refused : (r : Run) (d : ℕ) (w : Refusal) → finishOf r d .check ≡ Refused w → finishOf r d .run ≡ r
-  pub start-refused : (r : Run) (w : Refusal) → startOf r .check ≡ Refused w → startOf r .run ≡ r
-  pub workahead-back : (r : Run) (i : ℕ) → workaheadOf r i .run ≡ r
-  pub slack-back : (r : Run) → slackOf r .run ≡ r
+  -- A refused call gives the run it was given; a damaged run is refused by every call.
+  pub refused : HandsBack
   pub damaged-stays : (r : Run) → (SoundRun r → ⊥) → Stays r
   -- A take on a session of a sound run is the player's take on its state.
   pub player-agrees :
       (r : Run) (i n : ℕ) → SoundRun r → i < playing r → takeOf r i n .check ≡ drawnOf (stateAt r i) (clipAt r i) (r .started) n .check
   pub player-sound :
       (s : State) (x : Session) (b : Bool) (n : ℕ) → drawnOf s x b n .check ≡ Within → StateSound true x (drawnOf s x b n .state)
-  pub player-refused :
-      (s : State) (x : Session) (b : Bool) (n : ℕ) (w : Refusal) → drawnOf s x b n .check ≡ Refused w → drawnOf s x b n .state ≡ s
   -- Unused places never change.
   pub after-unused : (r q : Run) → Sized r → After r q → Unused r q
   -- None but start changes the order or whether a run has started.

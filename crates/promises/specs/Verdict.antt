@@ -27,9 +27,6 @@ pub record Verdicts : Type 0 where
   pub accepted-exactly :
       (s : Show) (d : Decision) → DecisionIs s d → (d .verdict ≡ verdict.Accepted) ↔ (ShowWithin s × Accepted (loadOf s))
   pub told : (s : Show) (d : Decision) → DecisionIs s d → d .verdict ≡ verdict.Accepted → SmallestSet s d
-  -- two answers that meet the statement are equal
-  pub one-decision : (s : Show) (d e : Decision) → DecisionIs s d → DecisionIs s e → d ≡ e
-  pub one-trial : (s : Show) (m : List ℕ) (a b : Trial) → TrialIs s m a → TrialIs s m b → a ≡ b
   -- nothing looks at unused places
   pub unused : (s t : Show) → Alike s t → (d : Decision) → DecisionIs s d → DecisionIs t d
   pub unused-tried : (s t : Show) → Alike s t → (m : List ℕ) (r : Trial) → TrialIs s m r → TrialIs t m r

@@ -53,12 +53,12 @@ least-most f (suc n) k h = elim (decLe k n) [
 ]
 
 -- It is one of them.
-record Attained (f : ℕ → ℤ) (n : ℕ) : Type 0 where
-  at : ℕ
-  within : at ≤ n
-  is : leastTo f n ≡ f at
+pub record Attained (f : ℕ → ℤ) (n : ℕ) : Type 0 where
+  pub at : ℕ
+  pub within : at ≤ n
+  pub is : leastTo f n ≡ f at
 
-attained : (f : ℕ → ℤ) (n : ℕ) → Attained f n
+pub attained : (f : ℕ → ℤ) (n : ℕ) → Attained f n
 unfolding leastTo
 attained f zero = record { at = 0; within = le-refl 0; is = refl }
 attained f (suc n) = elim (less? (f (suc n)) (leastTo f n)) [

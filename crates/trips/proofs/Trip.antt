@@ -106,7 +106,7 @@ note-read x note hl hs w h = rw (file-read x note hl hs w h) (take-at note _ (le
 
 -- ---- there and back in one call, by what its first half answered
 
-written-check : (c : Check) (n : ℕ) → written c n .check ≡ c
+pub written-check : (c : Check) (n : ℕ) → written c n .check ≡ c
 written-check Within n = refl
 written-check (Refused w) n = refl
 

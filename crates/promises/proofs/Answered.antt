@@ -1,0 +1,126 @@
+-- That there is an answer. Assumes nothing.
+use Prim.Native.Nat.{ℕ, _+_, _≤_, _<_}
+use mathlib.Core.Path.{_≡_, refl}
+use mathlib.Core.List.{List}
+use mathlib.Core.Logic.{Dec·and}
+use native.Mathlib.Omega.{arith}
+use native.Mathlib.Nat.{le-of-lt}
+use native.Mathlib.Decide.{decLe}
+use lib.ListN.{length}
+use Rattle.drive.specs.declared.Show.{Show}
+use Rattle.drive.specs.declared.refusal.Refusal.the-variants.{NoSet, BufferShort}
+use Rattle.drive.specs.declared.refusal.Check.{Check}
+use Rattle.drive.specs.declared.refusal.Check.the-variants.{Within, Refused}
+use Rattle.drive.specs.Limits.{ShowWithin}
+use Rattle.drive.specs.Checks.{showCheck}
+use Rattle.drive.proofs.Shows.{check-within}
+use Rattle.cost.specs.Bound.{countMost}
+use Rattle.theory.specs.Counts.{roundTime, Good, Accepted}
+use Rattle.theory.specs.Rounds.{asked, next, Sustains, Fits, LeastTime}
+use Rattle.theory.specs.Shows.{loadOf}
+use Rattle.theory.proofs.Rounds.{round-grows, time-accepts, accepted-has-least, least-round, least-smallest}
+use Rattle.theory.proofs.Shows.{show-sound, feasible-few}
+use Rattle.showfile.specs.declared.Written.{Written}
+use Rattle.showfile.specs.Answers.{readOf, written, writtenOver}
+use Rattle.showfile.proofs.Readable.{read-within}
+use Rattle.verdict.specs.declared.Decision.{Decision}
+use Rattle.verdict.specs.declared.Trial.{Trial}
+use Rattle.verdict.specs.declared.Answer.the-variants as answer
+use Rattle.verdict.specs.Answers.{DecisionIs, accepted, no-set, outside, acceptedWith, refusedFor, TrialIs, holds, fails, untried, setOf, timedAs, untriedFor}
+use Rattle.verdict.proofs.Once.{within-outside}
+use Rattle.run.specs.Decisions.{below?, some?, good?}
+use Rattle.run.specs.Opening.{openedBy}
+use Rattle.report.specs.Text.{refusedText, acceptedText}
+use Rattle.report.specs.Answers.{loadIn, TextIs, granted, eight, unread, textMost, ReportIs, told, short}
+use Rattle.promises.specs.Answered.{Answered}
+
+-- ---- verdicts
+
+module _ (s : Show) (w : ShowWithin s) where
+  -- a time that no least round passes: that of the largest counts
+  abbrev longest : ℕ
+  longest = roundTime (loadOf s) (λ i. countMost)
+
+  least-few : (t : ℕ) → LeastTime (loadOf s) t → Fits (loadOf s) t → t ≤ longest
+  least-few t h f =
+      let l = show-sound s w in
+      let g = round-grows (loadOf s) l (asked (loadOf s) t) (λ i. countMost) (λ i b. le-of-lt (feasible-few s w (asked (loadOf s) t) f i b)) in
+      let e = least-round (loadOf s) l t h in
+      omega arith
+
+  -- So a search among the times up to it tells.
+  accepted? : Dec (Accepted (loadOf s))
+  accepted? = from (some? (λ t. Dec·and (decLe (next (loadOf s) t) t) (below? (λ i. decLe _ _) (s .playing))) (longest + 1))
+    where
+      from : Dec ((t : ℕ) × ((t < longest + 1) × (Sustains (loadOf s) t × Fits (loadOf s) t))) → Dec (Accepted (loadOf s))
+      from (yes h) = yes (time-accepts (loadOf s) (show-sound s w) (h .0) (h .1 .1 .0) (h .1 .1 .1))
+      from (no n) =
+          no
+          (λ a.
+          let r = accepted-has-least (loadOf s) (show-sound s w) a in
+          n (r .0, ((let b = least-few (r .0) (r .1) (r .2) in omega arith), (r .1 .sustains, r .2))))
+
+  decided-within : (d : Decision) × DecisionIs s d
+  decided-within = from accepted?
+    where
+      from : Dec (Accepted (loadOf s)) → (d : Decision) × DecisionIs s d
+      from (yes a) =
+          let l = show-sound s w in
+          let r = accepted-has-least (loadOf s) l a in
+          let m = asked (loadOf s) (r .0) in
+          (acceptedWith (loadOf s) m, accepted m w (least-smallest (loadOf s) l (r .0) (r .1) (r .2)))
+      from (no n) = (refusedFor NoSet, no-set w n)
+
+  tried-within : (m : List ℕ) → (t : Trial) × TrialIs s m t
+  tried-within m = from (good? (loadOf s) (setOf m))
+    where
+      from : Dec (Good (loadOf s) (setOf m)) → (t : Trial) × TrialIs s m t
+      from (yes g) = (timedAs answer.Holds (loadOf s) (setOf m), holds w g)
+      from (no n) = (timedAs answer.Fails (loadOf s) (setOf m), fails w n)
+
+decided : (s : Show) → (d : Decision) × DecisionIs s d
+decided s = from (showCheck s) refl
+  where
+    from : (k : Check) → showCheck s ≡ k → (d : Decision) × DecisionIs s d
+    from Within e = decided-within s (check-within s e)
+    from (Refused w) e = (refusedFor w, outside w e)
+
+tried : (s : Show) (m : List ℕ) → (t : Trial) × TrialIs s m t
+tried s m = from (showCheck s) refl
+  where
+    from : (k : Check) → showCheck s ≡ k → (t : Trial) × TrialIs s m t
+    from Within e = tried-within s (check-within s e) m
+    from (Refused w) e = (untriedFor w, untried w e)
+
+-- ---- reports
+
+module _ (f : List ℕ) where
+  text-by : readOf f .check ≡ Within → (d : Decision) → DecisionIs (readOf f .show) d → (t : List ℕ) × TextIs f t
+  text-by e d (accepted m w h) = (acceptedText (loadIn f) m, granted m e h)
+  text-by e d (no-set w none) = (refusedText NoSet, eight e none)
+  text-by e d (outside w out) = within-outside (readOf f .show) w (read-within f e) out
+
+  text : (t : List ℕ) × TextIs f t
+  text = from (readOf f .check) refl
+    where
+      from : (k : Check) → readOf f .check ≡ k → (t : List ℕ) × TextIs f t
+      from Within e = let d = decided (readOf f .show) in text-by e (d .0) (d .1)
+      from (Refused w) e = (refusedText w, unread w e)
+
+  report : (b : List ℕ) → (r : Written) × ((x : List ℕ) × ReportIs f b r x)
+  report b = from (decLe textMost (length b))
+    where
+      from : Dec (textMost ≤ length b) → (r : Written) × ((x : List ℕ) × ReportIs f b r x)
+      from (yes l) = (written Within (length (text .0)), (writtenOver Within (text .0) b, told (text .0) (text .1) l))
+      from (no l) = (written (Refused BufferShort) 0, (b, short (omega arith)))
+
+pub answered : Answered
+answered =
+    record {
+      deciding = decided;
+      trying = tried;
+      opening = λ s.
+          (let d = decided s in
+          (openedBy s (d .0 .counts) (d .0 .verdict), record { decision = d .0; decides = d .1; answers = refl }));
+      reporting = report;
+    }

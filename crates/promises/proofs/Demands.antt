@@ -1,0 +1,40 @@
+-- The three demands, by citation. Assumes nothing.
+use mathlib.Core.Path.{sym, _∙_}
+use Rattle.drive.proofs.Checks.{tells-once}
+use Rattle.verdict.proofs.Once.{decision-once, trial-once}
+use Rattle.run.proofs.Opening.{open-once}
+use Rattle.report.proofs.Texts.{text-once}
+use Rattle.report.proofs.Reports.{report-once}
+use Rattle.promises.specs.Demands.{Demands}
+use Rattle.promises.proofs.Table.{table}
+use Rattle.promises.proofs.Trips.{trips}
+use Rattle.promises.proofs.Verdict.{verdicts}
+use Rattle.promises.proofs.Lighter.{lighter-shows}
+use Rattle.promises.proofs.Spare.{spare}
+use Rattle.promises.proofs.Reports.{reports}
+use Rattle.promises.proofs.Runs.{hands-back, runs}
+use Rattle.promises.proofs.Says.{numbered}
+use Rattle.promises.proofs.Answered.{answered}
+use Rattle.promises.proofs.Order.{order}
+use Rattle.promises.proofs.Refusals.{buffers, empty}
+use Rattle.promises.proofs.SpareTime.{spare-time}
+use Rattle.promises.proofs.Unseen.{unseen}
+
+pub demands : Demands
+demands =
+    record {
+      first = record { answered = answered; numbered = numbered; order = order; runs = hands-back; buffers = buffers; empty = empty };
+      second =
+          record { verdicts = verdicts; runs = runs; unseen = unseen; spare = spare-time; table = table; reports = reports; trips = trips };
+      third = record { lighter = lighter-shows; spare = spare };
+      once =
+          record {
+            equation = λ meaning x y p q. p ∙ sym q;
+            test = tells-once;
+            decision = decision-once;
+            trial = trial-once;
+            opening = open-once;
+            report = report-once;
+            text = text-once;
+          };
+    }

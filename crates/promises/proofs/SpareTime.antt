@@ -1,0 +1,148 @@
+-- Spare time to the microsecond, by citation. Assumes nothing.
+use Prim.Native.Nat.{ℕ, _-_, _≤_, _<_}
+use mathlib.Core.Path.{_≡_, refl, sym, ap, subst, _∙_}
+use mathlib.Core.Logic.{inl, inr, if-pos}
+use native.Mathlib.Omega.{arith}
+use native.Mathlib.Nat.{le-of-lt}
+use native.Mathlib.Decide.{decLt, ℕ-discrete}
+use lib.IntN.{ℤ, pos}
+use lib.ListN.{length, getD}
+use lib.Signed.{_≤ℤ_, _<ℤ_}
+use Rattle.drive.specs.declared.refusal.Refusal.{Refusal}
+use Rattle.drive.specs.declared.refusal.Refusal.the-variants as refusal
+use Rattle.drive.specs.declared.refusal.Check.{Check}
+use Rattle.drive.specs.declared.refusal.Check.the-variants.{Within, Refused}
+use Rattle.drive.specs.Checks.{first}
+use Rattle.drive.proofs.Checks.{within-refused, unless-within, first-left, first-right}
+use Rattle.theory.specs.Floor.{Floors}
+use Rattle.theory.specs.Spare.{less?, spareBy, slackBy, Before, rank}
+use Rattle.theory.proofs.Integers.{not-less, ≤ℤ-antisymm}
+use Rattle.theory.proofs.Floor.{floor-floors}
+use Rattle.theory.proofs.Spare.{attained, slack-least, rank-below, rank-rises, rank-first, rank-apart}
+use Rattle.run.specs.declared.Run.{Run}
+use Rattle.run.specs.Run.{playing, clipAt, seatAt}
+use Rattle.run.specs.Sound.{SoundRun, NamesEach}
+use Rattle.run.specs.Decisions.{sound?, soundCheck}
+use Rattle.run.specs.Answers.{moved, freeCheck}
+use Rattle.run.proofs.Answered.{moved-check}
+use Rattle.run.proofs.Orders.{names-below}
+use Rattle.spare.specs.declared.Spare.the-variants as spare
+use Rattle.spare.specs.declared.Spared.{Spared}
+use Rattle.spare.specs.Times.{aheadAt, timeAt, placeAt, slackTime, startOrder, running}
+use Rattle.spare.specs.Answers.{workaheadOf, someCheck, onceCheck, slackCheck, startCheck, startOf}
+use Rattle.spare.proofs.Aheads.{counting}
+use Rattle.spare.proofs.Orders.{named-at}
+use Rattle.spare.proofs.Calls.{workahead-damaged, start-names}
+use Rattle.spare.proofs.Laws.{workahead-told, slack-told}
+use Rattle.promises.specs.Runs.{Sized}
+use Rattle.promises.specs.SpareTime.{leadAt, LeastOf, SpareTime}
+
+-- ---- workahead
+
+timed-sound : (r : Run) (i : ℕ) (z : ℤ) → workaheadOf r i .spare ≡ spare.Time z → SoundRun r
+timed-sound r i z e =
+    elim (sound? r) [
+      | yes s ↦ s
+      | no n ↦ clash (ap (λ (a : Spared). a .spare) (workahead-damaged r i n) ∙ e)
+    ]
+  where
+    clash : {X : Type 0} {w : Refusal} → spare.Refused w ≡ spare.Time z → X
+    clash f = let z : _≡_ {A = ℕ} 0 1 = cc in absurd (let g : ⊥ = omega arith in g)
+
+floored : (r : Run) (i : ℕ) (z : ℤ) → workaheadOf r i .spare ≡ spare.Time z → Floors (leadAt r i) (clipAt r i .rate) z
+floored r i z e =
+    let t = workahead-told r i z e in
+    subst (Floors (leadAt r i) (clipAt r i .rate)) (sym (t .1))
+    (floor-floors (leadAt r i) (clipAt r i .rate) (counting r (timed-sound r i z e) i (t .0) .rate))
+
+-- ---- slack
+
+slack-is : (place : ℕ → ℕ) (w : ℕ → ℤ) (u : ℕ → ℕ) (n : ℕ) → 0 < n → LeastOf (spareBy place w u n) n (slackBy place w u n)
+unfolding slackBy
+slack-is place w u n l =
+    let a = attained (spareBy place w u n) (n - 1) in
+    record { below = slack-least place w u n; at = a .at; inside = (let h = a .within in omega arith); is = a .is }
+
+-- ---- start
+
+module _ (r : Run) (e : startOf r .check ≡ Within) where
+  checked : startCheck r ≡ Within
+  unfolding startOf
+  checked = sym (moved-check (startCheck r) r (running r)) ∙ e
+
+  start-runs : startOf r .run ≡ running r
+  unfolding startOf
+  start-runs = ap (λ (k : Check). moved k r (running r) .run) checked
+
+  start-of-sound : SoundRun r
+  unfolding startCheck
+  start-of-sound =
+      unless-within (sound? r) refusal.Damaged
+      (first-left (soundCheck r) (first (onceCheck r) (first (freeCheck (r .underway)) (first (someCheck r) (slackCheck r)))) checked)
+
+  start-not-negative : slackTime r <ℤ pos 0 → ⊥
+  unfolding startCheck slackCheck
+  start-not-negative l =
+      let last = first (someCheck r) (slackCheck r) in
+      let late = first (freeCheck (r .underway)) last in
+      let a = first-right (onceCheck r) late (first-right (soundCheck r) (first (onceCheck r) late) checked) in
+      let b = first-right (someCheck r) (slackCheck r) (first-right (freeCheck (r .underway)) last a) in
+      within-refused (sym b ∙ if-pos (less? (slackTime r) (pos 0)) l _ _)
+
+  module _ (n : Sized r) where
+    few : playing r ≤ length (r .order)
+    few = let h = start-of-sound .within .counts .sessions in let k = n .order in omega arith
+
+    -- the session at a place ranks at that place
+    seat-ranks : (k : ℕ) → k < playing r → (getD (startOrder r) k 0 < playing r) × (placeAt r (getD (startOrder r) k 0) ≡ k)
+    seat-ranks k l =
+        let each = start-names r few in
+        let i = getD (startOrder r) k 0 in
+        let b = names-below (startOrder r) (playing r) each k l in
+        let at = named-at (placeAt r) (r .order) (playing r) (λ j m. let h = rank-below (aheadAt r) (playing r) j m in let f = few in omega arith)
+        (rank-apart (aheadAt r) (playing r)) i b in
+        let o = each i b in
+        (b, o .only (placeAt r i) (rank-below (aheadAt r) (playing r) i b) at ∙ sym (o .only k l refl))
+
+-- Lower rank, earlier: less workahead, or as much and a lower number.
+rank-before : (w : ℕ → ℤ) (n i j : ℕ) → i < n → j < n → rank w n i < rank w n j → Before w i j
+rank-before w n i j l m h =
+    elim (less? (w i) (w j)) [
+      | yes b ↦ inl b
+      | no b ↦
+          (let even = ≤ℤ-antisymm (w i) (w j) (rank-first w n i j l m (le-of-lt h)) (not-less b) in
+          elim (decLt i j) [
+            | yes c ↦ inr (even, c)
+            | no c ↦
+                elim (ℕ-discrete i j) [
+                  | yes d ↦ absurd (let z : rank w n i ≡ rank w n j = ap (rank w n) d in let f : ⊥ = omega arith in f)
+                  | no d ↦ absurd (let z = rank-rises w n j i m (inr (sym even, omega arith)) in let f : ⊥ = omega arith in f)
+                ]
+          ])
+    ]
+
+module _ (r : Run) (n : Sized r) (e : startOf r .check ≡ Within) where
+  start-each : NamesEach (startOf r .run .order) (playing r)
+  unfolding running
+  start-each = rw (start-runs r e) (start-names r (few r e n))
+
+  start-rises : (j k : ℕ) → j < k → k < playing r → Before (aheadAt r) (seatAt (startOf r .run) j) (seatAt (startOf r .run) k)
+  unfolding running
+  start-rises j k l m =
+      rw (start-runs r e)
+      (let a = seat-ranks r e n j (omega arith) in
+      let b = seat-ranks r e n k m in
+      rank-before (aheadAt r) (playing r) _ _ (a .0) (b .0) (let p = a .1 in let q = b .1 in omega arith))
+
+pub spare-time : SpareTime
+spare-time =
+    record {
+      workahead = floored;
+      slack = λ r z e.
+          (let t = slack-told r z e in
+          subst (LeastOf (spareBy (placeAt r) (aheadAt r) (timeAt r) (playing r)) (playing r)) (sym (t .1))
+          (slack-is (placeAt r) (aheadAt r) (timeAt r) (playing r) (t .0)));
+      granted = λ r z e g. subst (λ (x : ℤ). pos 0 ≤ℤ x) (sym (slack-told r z e .1)) (not-less (start-not-negative r g));
+      names = start-each;
+      order = start-rises;
+    }

@@ -1,0 +1,88 @@
+-- The three demands, each sentence over what holds it, and that two results which satisfy one statement are equal. proofs/Demands.antt
+-- proves all of it by citation.
+use Prim.Native.Nat.{ℕ}
+use mathlib.Core.Path.{_≡_}
+use mathlib.Core.Bool.{Bool}
+use mathlib.Core.List.{List}
+use Rattle.drive.specs.declared.Show.{Show}
+use Rattle.drive.specs.Limits.{Tells}
+use Rattle.showfile.specs.declared.Written.{Written}
+use Rattle.verdict.specs.declared.Decision.{Decision}
+use Rattle.verdict.specs.declared.Trial.{Trial}
+use Rattle.verdict.specs.Answers.{DecisionIs, TrialIs}
+use Rattle.run.specs.declared.Opened.{Opened}
+use Rattle.run.specs.Opening.{OpenIs}
+use Rattle.report.specs.Answers.{TextIs, ReportIs}
+use Rattle.promises.specs.Numbers.{Table}
+use Rattle.promises.specs.Files.{Trips}
+use Rattle.promises.specs.Verdict.{Verdicts}
+use Rattle.promises.specs.Lighter.{Lighter, Spare}
+use Rattle.promises.specs.Reports.{Reports}
+use Rattle.promises.specs.Runs.{HandsBack, Runs}
+use Rattle.promises.specs.Answered.{Answered}
+use Rattle.promises.specs.Refusals.{Numbered, Order, Buffers, Empty}
+use Rattle.promises.specs.SpareTime.{SpareTime}
+use Rattle.promises.specs.Unseen.{Unseen}
+
+-- Demand 1.
+pub record First : Type 0 where
+  -- Every file and every call gets an answer ..
+  pub answered : Answered
+  -- .. or a numbered refusal;
+  pub numbered : Numbered
+  pub order : Order
+  -- we check, the caller need not. (No public call has a `requires`: what stands here is of every file, every show and every run.)
+  -- After a refusal the run ..
+  pub runs : HandsBack
+  -- .. and the caller's buffers are what they were.
+  pub buffers : Buffers
+  -- (Reading, deciding and opening are given no run: refused, they answer number and place, all else zero or empty.)
+  pub empty : Empty
+
+-- Demand 2.
+pub record Second : Type 0 where
+  -- The verdict is the paper's definition made exact (strictly more than its own worst time, and fits the buffers);
+  -- the counts are the smallest for every clip at once;
+  pub verdicts : Verdicts
+  -- files, clocks, spare time and next reads follow the written rules to the microsecond; (The rules are the definitions that the
+  -- contracts name: readOf, noteOf, writtenOf and bufferOf of a file, passOf, takeOf and finishOf of the clocks, chooseOf of the next read.
+  -- What is laid down of them: the laws of a run; that nothing looks at unused places; how spare time is rounded and ordered; the worked numbers;
+  -- the calculator's lines.)
+  pub runs : Runs
+  pub unseen : Unseen
+  pub spare : SpareTime
+  pub table : Table
+  pub reports : Reports
+  -- a show written and read again is the same show.
+  pub trips : Trips
+
+-- Demand 3.
+pub record Third : Type 0 where
+  -- Make an accepted show lighter and nothing gets worse: accepted again, no count, time or round larger, ..
+  pub lighter : Lighter
+  -- .. and where no session is behind its cushion, no workahead and not the slack smaller.
+  pub spare : Spare
+
+-- Two results that satisfy one statement are equal, for every public call.
+pub record Once : Type 1 where
+  -- The statement is an equation, of what is answered and of every byte or state that is lent: `Show::nothing`, `Show::check`,
+  -- `Refusal::told`, `Cost::time`, `costs_of`, `worst_time`, `read`, `note`, `write`, `reread`, `copy`, `Run::with_cycle`, `test_run`,
+  -- `pass`, `take`, `finish`, `choose`, `workahead`, `slack`, `start`, the player's `take_from`, `take` and `take_lent`; and, of texts, `find`,
+  -- `parts`, `part`, `decimal`, `unhex`.
+  pub equation : {A : Type 0} (meaning x y : A) → x ≡ meaning → y ≡ meaning → x ≡ y
+  -- It tells of a limit, of room, or of two texts: `Drive::within`, `Layout::within`, `Session::within`, `Show::counts_within`, `State::within`,
+  -- `State::room`, `same`.
+  pub test : (p : Type 0) (a b : Bool) → Tells a p → Tells b p → a ≡ b
+  -- `decide`, `tried`, `open`
+  pub decision : (s : Show) (d e : Decision) → DecisionIs s d → DecisionIs s e → d ≡ e
+  pub trial : (s : Show) (m : List ℕ) (a b : Trial) → TrialIs s m a → TrialIs s m b → a ≡ b
+  pub opening : (s : Show) (a b : Opened) → OpenIs s a → OpenIs s b → a ≡ b
+  -- `report`, in what it answers and in every byte; and the text that it puts
+  pub report : (f b : List ℕ) (r s : Written) (x y : List ℕ) → ReportIs f b r x → ReportIs f b s y → (r ≡ s) × (x ≡ y)
+  pub text : (f t u : List ℕ) → TextIs f t → TextIs f u → t ≡ u
+
+pub record Demands : Type 1 where
+  pub first : First
+  pub second : Second
+  pub third : Third
+  pub once : Once

@@ -1,0 +1,94 @@
+-- Demand 1, what is said no with and what is left after it: docs/RULES.md, section 4. proofs/Refusals.antt proves it.
+use Prim.Native.Nat.{ℕ}
+use mathlib.Core.Path.{_≡_}
+use mathlib.Core.Bool.{Bool}
+use mathlib.Core.List.{List, [], _∷_}
+use mathlib.Core.Logic.{_⊎_}
+use lib.ListN.{length}
+use Rattle.drive.specs.declared.Session.{Session}
+use Rattle.drive.specs.declared.Show.{Show}
+use Rattle.drive.specs.declared.refusal.Refusal.{Refusal}
+use Rattle.drive.specs.declared.refusal.Check.the-variants.{Refused}
+use Rattle.drive.specs.Limits.{Between, noShow}
+use Rattle.drive.specs.Refusals.{numberOf, placeOf, toldOf}
+use Rattle.drive.specs.Checks.{showCheck}
+use Rattle.cost.specs.declared.Worst.the-variants as worst
+use Rattle.cost.specs.Worst.{worstOf}
+use Rattle.showfile.specs.declared.Written.{Written}
+use Rattle.showfile.specs.Answers.{readOf, noteOf}
+use Rattle.filing.specs.Answers.{writtenOf, bufferOf}
+use Rattle.trips.specs.Answers.{rereadOf, copiedOf, copyOf}
+use Rattle.report.specs.Answers.{ReportIs}
+use Rattle.verdict.specs.declared.Decision.{Decision}
+use Rattle.verdict.specs.declared.Trial.{Trial}
+use Rattle.verdict.specs.declared.Verdict.the-variants as verdict
+use Rattle.verdict.specs.declared.Answer.the-variants as answer
+use Rattle.verdict.specs.Answers.{DecisionIs, TrialIs, refusedFor, untriedFor}
+use Rattle.run.specs.declared.State.{State}
+use Rattle.run.specs.declared.Run.{Run}
+use Rattle.run.specs.declared.Opened.{Opened}
+use Rattle.run.specs.Opening.{OpenIs, noRun}
+use Rattle.player.specs.Answers.{drawnOf}
+use Rattle.playback.specs.Answers.{passOf, takeOf, finishOf}
+use Rattle.scheduler.specs.declared.Choice.the-variants as choice
+use Rattle.scheduler.specs.Answers.{chooseOf}
+use Rattle.spare.specs.declared.Spare.the-variants as spare
+use Rattle.spare.specs.Answers.{workaheadOf, slackOf, startOf}
+
+-- one of these numbers
+abbrev pub OneOf : List ℕ → ℕ → Type 0
+OneOf [] n = ⊥
+OneOf (k ∷ l) n = (n ≡ k) ⊎ OneOf l n
+
+-- An answer that, where it is a refusal, has one of these numbers.
+abbrev pub Says : {A : Type 0} → (Refusal → A) → A → List ℕ → Type 0
+Says refused answer numbers = (w : Refusal) → answer ≡ refused w → OneOf numbers (numberOf w)
+
+pub record Numbered : Type 0 where
+  -- Every refusal has a number from 1 to 19, and by its number and place it is known.
+  pub number : (w : Refusal) → Between 1 (numberOf w) 19
+  pub known : (v w : Refusal) → toldOf v ≡ toldOf w → v ≡ w
+  -- The place is 0 but for 6 and 7.
+  pub place : (w : Refusal) → OneOf (6 ∷ 7 ∷ []) (numberOf w) ⊎ (placeOf w ≡ 0)
+
+-- No call says another number than these. They stand in the order of its tests, which its definition gives.
+pub record Order : Type 0 where
+  pub check : (s : Show) → Says Refused (showCheck s) (2 ∷ 5 ∷ 6 ∷ 7 ∷ [])
+  pub worst-time : (s : Show) (i n : ℕ) → Says worst.Refused (worstOf s i n) (2 ∷ 5 ∷ 6 ∷ 7 ∷ 9 ∷ [])
+  pub reading : (f : List ℕ) → Says Refused (readOf f .check) (1 ∷ 2 ∷ 3 ∷ 4 ∷ 5 ∷ 6 ∷ 7 ∷ [])
+  pub writing : (x : Show) (note : List ℕ) (room : ℕ) → Says Refused (writtenOf x note room .check) (2 ∷ 4 ∷ 5 ∷ 6 ∷ 7 ∷ 16 ∷ [])
+  pub rereading : (x : Show) (note : List ℕ) (room : ℕ) → Says Refused (rereadOf x note room .check) (2 ∷ 4 ∷ 5 ∷ 6 ∷ 7 ∷ 16 ∷ [])
+  pub copying : (f : List ℕ) (room : ℕ) → Says Refused (copiedOf f room .check) (1 ∷ 2 ∷ 3 ∷ 4 ∷ 5 ∷ 6 ∷ 7 ∷ 16 ∷ [])
+  pub reporting : (f b : List ℕ) (r : Written) (x : List ℕ) → ReportIs f b r x → Says Refused (r .check) (16 ∷ [])
+  pub deciding : (s : Show) (d : Decision) → DecisionIs s d → Says verdict.Refused (d .verdict) (2 ∷ 5 ∷ 6 ∷ 7 ∷ 8 ∷ [])
+  pub trying : (s : Show) (m : List ℕ) (t : Trial) → TrialIs s m t → Says answer.Refused (t .answer) (2 ∷ 5 ∷ 6 ∷ 7 ∷ [])
+  pub opening : (s : Show) (o : Opened) → OpenIs s o → Says Refused (o .check) (2 ∷ 5 ∷ 6 ∷ 7 ∷ 8 ∷ [])
+  pub pass : (r : Run) (d : ℕ) → Says Refused (passOf r d .check) (19 ∷ 11 ∷ [])
+  pub take : (r : Run) (i n : ℕ) → Says Refused (takeOf r i n .check) (19 ∷ 9 ∷ 12 ∷ 10 ∷ [])
+  pub player : (s : State) (x : Session) (b : Bool) (n : ℕ) → Says Refused (drawnOf s x b n .check) (19 ∷ 12 ∷ 10 ∷ [])
+  pub finish : (r : Run) (d : ℕ) → Says Refused (finishOf r d .check) (19 ∷ 11 ∷ 17 ∷ [])
+  pub choose : (r : Run) → Says choice.Refused (chooseOf r .choice) (19 ∷ 13 ∷ 14 ∷ [])
+  pub workahead : (r : Run) (i : ℕ) → Says spare.Refused (workaheadOf r i .spare) (19 ∷ 9 ∷ [])
+  pub slack : (r : Run) → Says spare.Refused (slackOf r .spare) (19 ∷ 9 ∷ [])
+  pub start : (r : Run) → Says Refused (startOf r .check) (19 ∷ 18 ∷ 13 ∷ 9 ∷ 15 ∷ [])
+
+-- Refused, every byte of a lent buffer is what it was.
+pub record Buffers : Type 0 where
+  pub writing : (x : Show) (note b : List ℕ) (w : Refusal) → writtenOf x note (length b) .check ≡ Refused w → bufferOf x note b ≡ b
+  pub rereading : (x : Show) (note b : List ℕ) (w : Refusal) → rereadOf x note (length b) .check ≡ Refused w → bufferOf x note b ≡ b
+  pub copying : (f b : List ℕ) (w : Refusal) → copiedOf f (length b) .check ≡ Refused w → copyOf f b ≡ b
+  pub reporting : (f b : List ℕ) (r : Written) (x : List ℕ) → ReportIs f b r x → (w : Refusal) → r .check ≡ Refused w → x ≡ b
+
+-- Refused, all beside number and place is zero or empty; a writer has written no byte.
+pub record Empty : Type 0 where
+  pub reading : (f : List ℕ) (w : Refusal) → readOf f .check ≡ Refused w → readOf f ≡ record { check = Refused w; show = noShow; note = 0 }
+  pub note : (f : List ℕ) (w : Refusal) → readOf f .check ≡ Refused w → noteOf f ≡ []
+  pub writing : (x : Show) (note : List ℕ) (room : ℕ) (w : Refusal) → writtenOf x note room .check ≡ Refused w → writtenOf x note room .len ≡ 0
+  pub rereading :
+      (x : Show) (note : List ℕ) (room : ℕ) (w : Refusal) → rereadOf x note room .check ≡ Refused w →
+      rereadOf x note room ≡ record { check = Refused w; show = noShow; note = 0 }
+  pub copying : (f : List ℕ) (room : ℕ) (w : Refusal) → copiedOf f room .check ≡ Refused w → copiedOf f room .len ≡ 0
+  pub reporting : (f b : List ℕ) (r : Written) (x : List ℕ) → ReportIs f b r x → (w : Refusal) → r .check ≡ Refused w → r .len ≡ 0
+  pub deciding : (s : Show) (d : Decision) → DecisionIs s d → (w : Refusal) → d .verdict ≡ verdict.Refused w → d ≡ refusedFor w
+  pub trying : (s : Show) (m : List ℕ) (t : Trial) → TrialIs s m t → (w : Refusal) → t .answer ≡ answer.Refused w → t ≡ untriedFor w
+  pub opening : (s : Show) (o : Opened) → OpenIs s o → (w : Refusal) → o .check ≡ Refused w → o ≡ record { check = Refused w; run = noRun }

@@ -1,0 +1,39 @@
+-- Spare time to the microsecond: docs/RULES.md, section 10. proofs/SpareTime.antt proves it.
+use Prim.Native.Nat.{ℕ, _<_}
+use mathlib.Core.Path.{_≡_}
+use lib.IntN.{ℤ, pos, _-ℤ_, _*ℤ_}
+use lib.Signed.{_≤ℤ_}
+use Rattle.drive.specs.declared.refusal.Check.the-variants.{Within}
+use Rattle.theory.specs.Floor.{Floors}
+use Rattle.theory.specs.Spare.{spareBy, Before}
+use Rattle.run.specs.declared.Run.{Run}
+use Rattle.run.specs.Run.{playing, stateAt, clipAt, seatAt}
+use Rattle.run.specs.Sound.{NamesEach}
+use Rattle.spare.specs.declared.Spare.the-variants.{Time}
+use Rattle.spare.specs.Times.{aheadAt, timeAt, placeAt}
+use Rattle.spare.specs.Answers.{workaheadOf, slackOf, startOf}
+use Rattle.promises.specs.Runs.{Sized}
+
+-- (P - Y) x 1,000,000 - C
+abbrev pub leadAt : Run → ℕ → ℤ
+leadAt r i = (pos (stateAt r i .put) -ℤ pos (clipAt r i .cushion)) *ℤ pos 1000000 -ℤ pos (stateAt r i .clock)
+
+-- z is the least of f 0, .., f (n - 1).
+pub record LeastOf (f : ℕ → ℤ) (n : ℕ) (z : ℤ) : Type 0 where
+  pub below : (k : ℕ) → k < n → z ≤ℤ f k
+  pub at : ℕ
+  pub inside : at < n
+  pub is : z ≡ f at
+
+pub record SpareTime : Type 0 where
+  -- Workahead is ((P - Y) x 1,000,000 - C) / R, rounded down, also below zero.
+  pub workahead : (r : Run) (i : ℕ) (z : ℤ) → workaheadOf r i .spare ≡ Time z → Floors (leadAt r i) (clipAt r i .rate) z
+  -- Each session has its workahead minus the sum of U(M) up to and including its own, in increasing workahead; slack is the least of these.
+  pub slack :
+      (r : Run) (z : ℤ) → slackOf r .spare ≡ Time z → LeastOf (spareBy (placeAt r) (aheadAt r) (timeAt r) (playing r)) (playing r) z
+  -- Start needs slack of 0 or more. The cycle then names each session once, in increasing workahead, ties by lower number.
+  pub granted : (r : Run) (z : ℤ) → slackOf r .spare ≡ Time z → startOf r .check ≡ Within → pos 0 ≤ℤ z
+  pub names : (r : Run) → Sized r → startOf r .check ≡ Within → NamesEach (startOf r .run .order) (playing r)
+  pub order :
+      (r : Run) → Sized r → startOf r .check ≡ Within → (j k : ℕ) → j < k → k < playing r →
+      Before (aheadAt r) (seatAt (startOf r .run) j) (seatAt (startOf r .run) k)
