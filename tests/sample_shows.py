@@ -1,5 +1,5 @@
 #!/usr/bin/env python3
-"""Writes the sample shows in the folder shows, from numbers.
+"""Writes the sample shows and the sample script in the folder shows, from numbers.
 
   tests/sample_shows.py
   tests/sample_shows.py --check     says whether the files there are what this writes
@@ -25,15 +25,23 @@ def wall():
     rest = [(6_250_000, 3_125_000, 33_554_432, 0), (192_000, 96_000, 1_048_576, 2)]
     return (65_536, 64), [OUTER, MIDDLE, INNER], tiles + sides + rest
 
+def evening():
+    """A script: p3's clips with the smallest buffers, three blocks each. They are filled, the show starts, and the first clip plays for a tenth of a second."""
+    show = encode(alike(X, 3, 153_601), b'')
+    loads = ['choose', 'finish 26000'] * 9 + ['choose']
+    plays = ['slack', 'start', 'take 0 51200', 'pass 100000', 'workahead 0', 'choose', 'finish 26000', 'slack']
+    return '\n'.join(['case evening', 'show ' + show.hex(), 'open', *loads, *plays, 'end', '']).encode()
+
 def files():
-    return {'p3': encode(alike(X, 3), b''), 'p6': encode(alike(Z, 10), b''), 'p7': encode(almost_full(), b''),
-            'wall': encode(wall(), WALL_NOTE), 'empty': encode(alike(X, 0), b'')}
+    return {'p3.show': encode(alike(X, 3), b''), 'p6.show': encode(alike(Z, 10), b''), 'p7.show': encode(almost_full(), b''),
+            'wall.show': encode(wall(), WALL_NOTE), 'empty.show': encode(alike(X, 0), b''), 'evening.script': evening()}
 
 def main():
-    made = {FOLDER / (name + '.show'): data for name, data in files().items()}
+    made = {FOLDER / name: data for name, data in files().items()}
     if sys.argv[1:] == ['--check']:
-        other = sorted(set(FOLDER.glob('*.show')) ^ set(made)) + [path for path, data in made.items() if path.exists() and path.read_bytes() != data]
-        end_check(('shows/%s: not as written here' % path.name for path in other), 'every sample show is as written here')
+        there = {path for path in FOLDER.iterdir() if path.suffix in ('.show', '.script')}
+        other = sorted(there ^ set(made)) + [path for path, data in made.items() if path.exists() and path.read_bytes() != data]
+        end_check(('shows/%s: not as written here' % path.name for path in other), 'every sample is as written here')
     for path, data in made.items():
         path.write_bytes(data)
 

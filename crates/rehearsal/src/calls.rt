@@ -1,0 +1,119 @@
+// The calls on a run, and what each answers.
+use crate::asked::Asked;
+use crate::asked::Word;
+use crate::text::say;
+use crate::text::tell;
+use drive::refusal::Check;
+use drive::refusal::Told;
+use run::Moved;
+use run::Run;
+use scheduler::Choice;
+use scheduler::Chosen;
+use spare::Spare;
+use spare::Spared;
+
+pub(crate) enum Answer {
+    Granted,
+    Idle,
+    Read(usize),
+    Value(i64),
+    Refused(Told),
+}
+
+// What a call answers, and the run after it.
+pub(crate) struct Called {
+    pub answer: Answer,
+    pub run: Run,
+}
+
+pub(crate) fn call(asked: Asked, run: Run) -> Called {
+    let word = asked.word;
+    match word {
+        Word::Pass => moved(playback::pass(run, asked.value)),
+        Word::Take => moved(playback::take(run, asked.index, asked.value)),
+        Word::Choose => chosen(scheduler::choose(run)),
+        Word::Finish => moved(playback::finish(run, asked.value)),
+        Word::Workahead => spared(spare::workahead(run, asked.index)),
+        Word::Slack => spared(spare::slack(run)),
+        _ => moved(spare::start(run)),
+    }
+}
+
+fn moved(m: Moved) -> Called {
+    let check = m.check;
+    let run = m.run;
+    Called {
+        answer: checked(check),
+        run,
+    }
+}
+
+fn checked(check: Check) -> Answer {
+    let Check::Refused(why) = check else {
+        return Answer::Granted;
+    };
+    Answer::Refused(why.told())
+}
+
+fn chosen(c: Chosen) -> Called {
+    let choice = c.choice;
+    let run = c.run;
+    Called {
+        answer: choice_of(choice),
+        run,
+    }
+}
+
+fn choice_of(choice: Choice) -> Answer {
+    match choice {
+        Choice::Idle => Answer::Idle,
+        Choice::Read(session) => Answer::Read(session),
+        Choice::Refused(why) => Answer::Refused(why.told()),
+    }
+}
+
+fn spared(s: Spared) -> Called {
+    let spare = s.spare;
+    let run = s.run;
+    Called {
+        answer: spare_of(spare),
+        run,
+    }
+}
+
+fn spare_of(spare: Spare) -> Answer {
+    match spare {
+        Spare::Time(t) => Answer::Value(t),
+        Spare::Refused(why) => Answer::Refused(why.told()),
+    }
+}
+
+pub(crate) fn answer_told(answer: Answer) -> bool {
+    match answer {
+        Answer::Granted => say(b" -> ok\n"),
+        Answer::Idle => say(b" -> idle\n"),
+        Answer::Read(session) => tell(b" -> read #\n", &[session as u64]),
+        Answer::Value(t) => value_told(t),
+        Answer::Refused(told) => tell(
+            b" -> refused # #\n",
+            &[told.number as u64, told.place as u64],
+        ),
+    }
+}
+
+// A time may be below zero.
+fn value_told(t: i64) -> bool {
+    let size = magnitude(t);
+    if t < 0 {
+        return tell(b" -> value -#\n", &[size]);
+    }
+    tell(b" -> value #\n", &[size])
+}
+
+fn magnitude(t: i64) -> u64 {
+    if t < 0 {
+        let below = (-1 - t) as u64;
+        return below + 1;
+    }
+    t as u64
+}
