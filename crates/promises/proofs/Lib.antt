@@ -12,5 +12,6 @@ pub mod Refusals
 pub mod Spare
 pub mod SpareTime
 pub mod Answered
+pub mod Alike
 pub mod Unseen
 pub mod Demands
