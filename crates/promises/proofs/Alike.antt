@@ -36,6 +36,7 @@ use Rattle.run.proofs.Steps.{seat-below, read-below}
 use Rattle.spare.specs.declared.Spare.the-variants as spare
 use Rattle.spare.specs.Answers.{spared}
 use Rattle.promises.specs.Runs.{Sized}
+use Rattle.promises.proofs.Runs.{few}
 use Rattle.promises.specs.Unseen.{AlikeRuns, SameMoved, SameSpared}
 
 -- ---- alike
@@ -239,9 +240,6 @@ module _ (r q : Run) (a : AlikeRuns r q) where
   session-same i = ap (λ (n : ℕ). unless (decLt i n) refusal.NoSession) (a .show .playing)
 
   module _ (n : Sized r) (m : Sized q) (s : SoundRun r) where
-    pub few : playing r ≤ length (r .states)
-    few = let h = s .within .counts .sessions in let k = n .states in omega arith
-
     pub few-too : playing r ≤ length (q .states)
     few-too = let h = s .within .counts .sessions in let k = m .states in omega arith
 
@@ -261,7 +259,7 @@ module _ (r q : Run) (a : AlikeRuns r q) where
             (λ i l.
             (let e = a .show .playing in
             let f = few-too in
-            changed-below (tickedAt r d) (playing r) (r .states) i l few
+            changed-below (tickedAt r d) (playing r) (r .states) i l (few r n s)
             ∙ ticks i l
             ∙ sym (changed-below (tickedAt q d) (playing q) (q .states) i (omega arith) (omega arith))))
 
@@ -269,4 +267,4 @@ module _ (r q : Run) (a : AlikeRuns r q) where
     unfolding taken
     taken-alike i k l =
         states-alike _ _
-        (set-alike (r .states) (q .states) noState (playing r) i _ _ few few-too (ap (drawn k) (a .states i l)) (a .states))
+        (set-alike (r .states) (q .states) noState (playing r) i _ _ (few r n s) few-too (ap (drawn k) (a .states i l)) (a .states))

@@ -43,7 +43,7 @@ use Rattle.spare.proofs.Calls.{workahead-damaged, slack-damaged, start-damaged}
 use Rattle.spare.proofs.Laws.{workahead-run, slack-run, slack-most, slack-told, start-sound, start-refused, start-fresh, start-granted, far-starts}
 use Rattle.promises.specs.Runs.{Sized, After, pass, take, choose, finish, workahead, slack, start, RunOf, opened, called, HandsBack, Unused, Runs}
 
-few : (r : Run) → Sized r → SoundRun r → playing r ≤ length (r .states)
+pub few : (r : Run) → Sized r → SoundRun r → playing r ≤ length (r .states)
 few r n s = let h = s .within .counts .sessions in let k = n .states in omega arith
 
 after-sound : (r q : Run) → Sized r → SoundRun r → After r q → SoundRun q

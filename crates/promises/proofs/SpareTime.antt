@@ -1,19 +1,16 @@
 -- Spare time to the microsecond, by citation. Assumes nothing.
 use Prim.Native.Nat.{ℕ, _-_, _≤_, _<_}
 use mathlib.Core.Path.{_≡_, refl, sym, ap, subst, _∙_}
-use mathlib.Core.Logic.{inl, inr, if-pos}
+use mathlib.Core.Logic.{inl, inr}
 use native.Mathlib.Omega.{arith}
 use native.Mathlib.Nat.{le-of-lt}
 use native.Mathlib.Decide.{decLt, ℕ-discrete}
 use lib.IntN.{ℤ, pos}
 use lib.ListN.{length, getD}
-use lib.Signed.{_≤ℤ_, _<ℤ_}
+use lib.Signed.{_≤ℤ_}
 use Rattle.drive.specs.declared.refusal.Refusal.{Refusal}
-use Rattle.drive.specs.declared.refusal.Refusal.the-variants as refusal
 use Rattle.drive.specs.declared.refusal.Check.{Check}
 use Rattle.drive.specs.declared.refusal.Check.the-variants.{Within, Refused}
-use Rattle.drive.specs.Checks.{first}
-use Rattle.drive.proofs.Checks.{within-refused, unless-within, first-left, first-right}
 use Rattle.theory.specs.Floor.{Floors}
 use Rattle.theory.specs.Spare.{less?, spareBy, slackBy, Before, rank}
 use Rattle.theory.proofs.Integers.{not-less, ≤ℤ-antisymm}
@@ -22,18 +19,18 @@ use Rattle.theory.proofs.Spare.{attained, slack-least, rank-below, rank-rises, 
 use Rattle.run.specs.declared.Run.{Run}
 use Rattle.run.specs.Run.{playing, clipAt, seatAt}
 use Rattle.run.specs.Sound.{SoundRun, NamesEach}
-use Rattle.run.specs.Decisions.{sound?, soundCheck}
-use Rattle.run.specs.Answers.{moved, freeCheck}
+use Rattle.run.specs.Decisions.{sound?}
+use Rattle.run.specs.Answers.{moved}
 use Rattle.run.proofs.Answered.{moved-check}
 use Rattle.run.proofs.Orders.{names-below}
 use Rattle.spare.specs.declared.Spare.the-variants as spare
 use Rattle.spare.specs.declared.Spared.{Spared}
-use Rattle.spare.specs.Times.{aheadAt, timeAt, placeAt, slackTime, startOrder, running}
-use Rattle.spare.specs.Answers.{workaheadOf, someCheck, onceCheck, slackCheck, startCheck, startOf}
+use Rattle.spare.specs.Times.{aheadAt, timeAt, placeAt, startOrder, running}
+use Rattle.spare.specs.Answers.{workaheadOf, startCheck, startOf}
 use Rattle.spare.proofs.Aheads.{counting}
 use Rattle.spare.proofs.Orders.{named-at}
 use Rattle.spare.proofs.Calls.{workahead-damaged, start-names}
-use Rattle.spare.proofs.Laws.{workahead-told, slack-told}
+use Rattle.spare.proofs.Laws.{workahead-told, slack-told, starts}
 use Rattle.promises.specs.Runs.{Sized}
 use Rattle.promises.specs.SpareTime.{leadAt, LeastOf, SpareTime}
 
@@ -74,24 +71,9 @@ module _ (r : Run) (e : startOf r .check ≡ Within) where
   unfolding startOf
   start-runs = ap (λ (k : Check). moved k r (running r) .run) checked
 
-  start-of-sound : SoundRun r
-  unfolding startCheck
-  start-of-sound =
-      unless-within (sound? r) refusal.Damaged
-      (first-left (soundCheck r) (first (onceCheck r) (first (freeCheck (r .underway)) (first (someCheck r) (slackCheck r)))) checked)
-
-  start-not-negative : slackTime r <ℤ pos 0 → ⊥
-  unfolding startCheck slackCheck
-  start-not-negative l =
-      let last = first (someCheck r) (slackCheck r) in
-      let late = first (freeCheck (r .underway)) last in
-      let a = first-right (onceCheck r) late (first-right (soundCheck r) (first (onceCheck r) late) checked) in
-      let b = first-right (someCheck r) (slackCheck r) (first-right (freeCheck (r .underway)) last a) in
-      within-refused (sym b ∙ if-pos (less? (slackTime r) (pos 0)) l _ _)
-
   module _ (n : Sized r) where
     few : playing r ≤ length (r .order)
-    few = let h = start-of-sound .within .counts .sessions in let k = n .order in omega arith
+    few = let h = starts r checked .sound .within .counts .sessions in let k = n .order in omega arith
 
     -- the session at a place ranks at that place
     seat-ranks : (k : ℕ) → k < playing r → (getD (startOrder r) k 0 < playing r) × (placeAt r (getD (startOrder r) k 0) ≡ k)
@@ -142,7 +124,7 @@ spare-time =
           (let t = slack-told r z e in
           subst (LeastOf (spareBy (placeAt r) (aheadAt r) (timeAt r) (playing r)) (playing r)) (sym (t .1))
           (slack-is (placeAt r) (aheadAt r) (timeAt r) (playing r) (t .0)));
-      granted = λ r z e g. subst (λ (x : ℤ). pos 0 ≤ℤ x) (sym (slack-told r z e .1)) (not-less (start-not-negative r g));
+      granted = λ r z e g. subst (λ (x : ℤ). pos 0 ≤ℤ x) (sym (slack-told r z e .1)) (not-less (starts r (checked r g) .enough));
       names = start-each;
       order = start-rises;
     }

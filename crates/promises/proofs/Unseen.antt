@@ -51,8 +51,9 @@ use Rattle.spare.proofs.Orders.{named-length, named-same}
 use Rattle.spare.proofs.Calls.{start-first}
 use Rattle.promises.specs.Runs.{Sized}
 use Rattle.promises.specs.Unseen.{AlikeRuns, SameMoved, SameChosen, SameSpared, SameOpened, Unseen}
+use Rattle.promises.proofs.Runs.{few}
 use Rattle.promises.proofs.Alike.{same-runs, back, room-alike, put-alike, onward-alike, whole-alike, still-sound, sound-same, first-same, moved-same}
-use Rattle.promises.proofs.Alike.{spared-same, sound-passed, set-alike, states-alike, cycle-alike, session-same, few, few-too, passed-alike, taken-alike}
+use Rattle.promises.proofs.Alike.{spared-same, sound-passed, set-alike, states-alike, cycle-alike, session-same, few-too, passed-alike, taken-alike}
 
 -- ---- pass and take
 
@@ -235,8 +236,8 @@ module _ (r q : Run) (n : Sized r) (m : Sized q) (a : AlikeRuns r q) (d : ℕ) w
       from : (u : Underway) → r .underway ≡ u → AlikeRuns (landedFor u (passed r d)) (landedFor u (passed q d))
       from underway.Nothing e = p
       from (underway.Read i) e =
-          landed-alike (passed r d) (passed q d) p (passed-sound r d (few r q a n m s) s)
-          (let x = passed-kept r d .sized in let y = few r q a n m s in omega arith)
+          landed-alike (passed r d) (passed q d) p (passed-sound r d (few r n s) s)
+          (let x = passed-kept r d .sized in let y = few r n s in omega arith)
           (let x = passed-kept q d .sized in let y = few-too r q a n m s in omega arith) i e
 
   finish-same : SameMoved (finishOf r d) (finishOf q d)

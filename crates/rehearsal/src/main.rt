@@ -109,10 +109,11 @@ fn kept(room: &[u8], left: usize, desk: Desk) -> Turn
             desk,
         };
     }
+    let desk = long_line(room, desk);
     Turn {
         held: 0,
         more: !desk.lost,
-        desk: long_line(room, desk),
+        desk,
     }
 }
 

@@ -2,12 +2,13 @@
 use Prim.Native.Nat.{ℕ, _+_, _*_, _≤_, _<_}
 use mathlib.Core.Path.{_≡_, refl, sym, ap, _∙_}
 use mathlib.Core.Bool.{false}
+use mathlib.Core.Logic.{if-pos}
 use native.Mathlib.Decide.{decLt}
 use native.Mathlib.Nat.{le-refl, mul-comm}
 use native.Mathlib.Omega.{arith}
 use lib.IntN.{ℤ, pos}
 use lib.ListN.{length}
-use lib.Signed.{_≤ℤ_, clashℤ}
+use lib.Signed.{_≤ℤ_, _<ℤ_, clashℤ}
 use Rattle.drive.specs.declared.refusal.Refusal.{Refusal}
 use Rattle.drive.specs.declared.refusal.Refusal.the-variants as refusal
 use Rattle.drive.specs.declared.refusal.Check.{Check}
@@ -15,7 +16,7 @@ use Rattle.drive.specs.declared.refusal.Check.the-variants.{Within, Refused}
 use Rattle.drive.specs.Checks.{first}
 use Rattle.drive.proofs.Checks.{within-refused, unless-within, first-left, first-right}
 use Rattle.theory.specs.Sum.{sumTo}
-use Rattle.theory.specs.Spare.{slackBy}
+use Rattle.theory.specs.Spare.{less?, slackBy}
 use Rattle.theory.proofs.Floor.{floor-from}
 use Rattle.theory.proofs.Spare.{slack-enough, claim-nine, rank-below}
 use Rattle.run.specs.declared.Underway.the-variants as underway
@@ -27,10 +28,9 @@ use Rattle.run.specs.Answers.{moved, sessionCheck, freeCheck}
 use Rattle.run.specs.Laws.{Ahead}
 use Rattle.run.proofs.States.{true-false}
 use Rattle.run.proofs.Steps.{nothing-read}
-use Rattle.run.proofs.Answered.{free-nothing}
+use Rattle.run.proofs.Answered.{moved-either, moved-back, free-nothing}
 use Rattle.run.specs.declared.Moved.{Moved}
 use Rattle.spare.specs.declared.Spare.the-variants as spare
-use Rattle.run.proofs.Answered.{moved-either, moved-back}
 use Rattle.spare.specs.Times.{aheadAt, timeAt, slackTime, placeAt, running}
 use Rattle.spare.specs.Answers.{spared, workaheadOf, someCheck, slackOf, onceCheck, slackCheck, startCheck, startOf}
 use Rattle.spare.specs.Laws.{Started}
@@ -59,15 +59,16 @@ slack-most r place l = claim-nine place (aheadAt r) (timeAt r) (playing r) l
 -- ---- start
 
 -- What a granted start rests on.
-record Starts (r : Run) : Type 0 where
-  sound : SoundRun r
-  fresh : r .started ≡ false
-  free : r .underway ≡ underway.Nothing
-  some : 0 < playing r
+pub record Starts (r : Run) : Type 0 where
+  pub sound : SoundRun r
+  pub fresh : r .started ≡ false
+  pub free : r .underway ≡ underway.Nothing
+  pub some : 0 < playing r
+  pub enough : slackTime r <ℤ pos 0 → ⊥
 
 module _ (r : Run) where
-  starts : startCheck r ≡ Within → Starts r
-  unfolding startCheck
+  pub starts : startCheck r ≡ Within → Starts r
+  unfolding startCheck slackCheck
   starts e =
       let last = first (someCheck r) (slackCheck r) in
       let late = first (freeCheck (r .underway)) last in
@@ -79,6 +80,7 @@ module _ (r : Run) where
         fresh = unless-within (false? (r .started)) refusal.AlreadyStarted (first-left (onceCheck r) late a);
         free = free-nothing (r .underway) (first-left (freeCheck (r .underway)) last b);
         some = unless-within (decLt 0 (playing r)) refusal.NoSession (first-left (someCheck r) (slackCheck r) c);
+        enough = λ l. within-refused (sym (first-right (someCheck r) (slackCheck r) c) ∙ if-pos (less? (slackTime r) (pos 0)) l _ _);
       }
 
   running-sound : length (r .order) ≡ 16 → Starts r → SoundRun (running r)
