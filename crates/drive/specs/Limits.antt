@@ -31,11 +31,15 @@ pub record LayoutWithin (y : Layout) : Type 0 where
   pub time : Between 1 (y .time) 1000000
   pub rotation : y .rotation ≤ 1000000
 
+-- the largest buffer that there is
+abbrev pub bufferMost : ℕ
+bufferMost = 1073741824
+
 -- Session: rate R 1 to 100,000,000 bytes/s; cushion Y 1 to 16,777,216; buffer B 1 to 1,073,741,824; layout number below the layout count.
 pub record SessionWithin (laid : ℕ) (x : Session) : Type 0 where
   pub rate : Between 1 (x .rate) 100000000
   pub cushion : Between 1 (x .cushion) 16777216
-  pub buffer : Between 1 (x .buffer) 1073741824
+  pub buffer : Between 1 (x .buffer) bufferMost
   pub layout : x .layout < laid
 
 -- 1 to 8 layouts, 0 to 16 sessions.

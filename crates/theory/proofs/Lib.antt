@@ -5,5 +5,6 @@ pub mod Spare
 pub mod Search
 pub mod Rounds
 pub mod Overload
+pub mod Reasons
 pub mod Lighter
 pub mod Shows

@@ -1,13 +1,22 @@
--- A lighter load stays accepted, with no larger counts and no longer a round. Of U the law `rises` is cited. Assumes nothing.
-use Prim.Native.Nat.{ℕ, _≤_, _<_}
-use mathlib.Core.Path.{_∙_}
+-- A lighter load stays accepted, with no larger counts, no longer a round and no more to do. Of U the law `rises` is cited. Assumes
+-- nothing.
+use Prim.Native.Nat.{ℕ, _*_, _/_, _≤_, _<_}
+use mathlib.Core.Path.{_≡_, sym, _∙_, ap}
 use native.Mathlib.Omega.{arith}
-use native.Mathlib.Nat.{le-trans, lt-of-le-of-lt, mul-le-mul}
+use native.Mathlib.Nat.{le-refl, le-of-eq, le-trans, lt-of-le-of-lt, mul-le-mul, mul-le-mul-right, div-zero, div-mul-le-self, le-div-iff-mul-le}
+use native.Mathlib.Decide.{decLt}
 use Rattle.cost.proofs.Bound.{bound-grows}
-use Rattle.theory.specs.Counts.{Stream, Load, Sound, roundTime, Augmenting, Feasible, Good, Accepted, Smallest}
+use Rattle.theory.specs.Counts.{Stream, Load, Sound, unit, roundTime, Augmenting, Feasible, Good, Accepted, Smallest, wholeLoad}
 use Rattle.theory.specs.Lighter.{Light, Lighter}
+use Rattle.theory.specs.Reasons.{tenths}
 use Rattle.theory.proofs.Sum.{sum-grows, sum-part}
 use Rattle.theory.proofs.Rounds.{round-grows}
+
+div-grows : (k : ℕ) {m n : ℕ} → m ≤ n → m / k ≤ n / k
+div-grows k {m} {n} h = elim (decLt 0 k) [
+  | yes some ↦ le-div-iff-mul-le some .1 (le-trans (div-mul-le-self m k) h)
+  | no none ↦ let z : k ≡ 0 = omega arith in rw (z, div-zero m, div-zero n) (le-refl 0)
+]
 
 light-then : (c d f : Stream) → Light c d → Light d f → Light c f
 light-then c d f p q =
@@ -16,6 +25,25 @@ light-then c d f p q =
       cushion = le-trans (p .cushion) (q .cushion);
       buffer = le-trans (q .buffer) (p .buffer);
       time = λ n. le-trans (p .time n) (q .time n);
+    }
+
+-- Loads with the same sessions are no harder than each other.
+pub same-lighter :
+    (a b : Load) → a .block ≡ b .block → a .playing ≡ b .playing → ((i : ℕ) → i < a .playing → a .stream i ≡ b .stream i) →
+    Lighter a b (λ i. i)
+same-lighter a b e f same =
+    record {
+      block = e;
+      inside = λ i h. rw f at h;
+      rising = λ i j h g. h;
+      stream = λ i h.
+          (let s = same i h in
+          record {
+            rate = le-of-eq (ap (λ (x : Stream). x .rate) s);
+            cushion = le-of-eq (ap (λ (x : Stream). x .cushion) s);
+            buffer = le-of-eq (ap (λ (x : Stream). x .buffer) (sym s));
+            time = λ n. le-of-eq (ap (λ (x : Stream). x .time n) s);
+          });
     }
 
 -- Two steps are one.
@@ -71,3 +99,16 @@ module _ (a b : Load) (e : ℕ → ℕ) (t : Lighter a b e) where
     -- .. or the round.
     pub lighter-rounds : (p m : ℕ → ℕ) → Smallest a p → Smallest b m → roundTime a p ≤ roundTime b m
     lighter-rounds p m x y = le-trans (round-grows a s p (λ i. m (e i)) (lighter-counts p m x y)) (lighter-round m)
+
+  -- The same drive, and no weight larger: it has no more to do.
+  module _ (drive : a .cylinder ≡ b .cylinder) (weight : (i : ℕ) → i < a .playing → a .stream i .weight ≤ b .stream (e i) .weight) where
+    lighter-load : wholeLoad a ≤ wholeLoad b
+    lighter-load =
+        le-trans
+        (sum-grows _ (λ i. b .stream (e i) .rate * b .stream (e i) .weight) (a .playing)
+        (λ i h. mul-le-mul (t .stream i h .rate) (weight i h)))
+        (sum-part (λ j. b .stream j .rate * b .stream j .weight) e (a .playing) (b .playing) (t .inside) (t .rising))
+
+    pub lighter-tenths : tenths a ≤ tenths b
+    unfolding tenths
+    lighter-tenths = rw (drive, t .block) (div-grows (b .cylinder * unit b) (mul-le-mul-right 1000 lighter-load))

@@ -1,13 +1,17 @@
--- An even hundred per cent is too much: no set is workahead-augmenting, whatever the buffers. Of U the laws `weighs` and `low` are
--- cited. Assumes nothing.
-use Prim.Native.Nat.{ℕ, _+_, _*_, _≤_}
-use mathlib.Core.Path.{_≡_}
+-- An even hundred per cent is too much, and less is not: overloaded exactly if no set is workahead-augmenting, whatever the buffers. Of
+-- U the laws `weighs`, `low` and `high` are cited. Assumes nothing.
+use Prim.Native.Nat.{ℕ, _+_, _*_, _/_, _≤_, _<_}
+use mathlib.Core.Path.{_≡_, sym, _∙_, ap}
+use mathlib.Core.Logic.{_↔_}
 use native.Mathlib.Omega.{arith}
-use native.Mathlib.Nat.{mul-assoc, mul-comm, mul-right-comm, mul-le-mul-right, mul-lt-mul-of-pos-right, mul-pos}
+use native.Mathlib.Nat.{le-refl, add-mul, mul-assoc, mul-comm, mul-right-comm, mul-le-mul-right, mul-lt-mul-of-pos-right, le-of-mul-le-mul-right, mul-pos, mul-div-cancel, le-div-iff-mul-le}
+use native.Mathlib.Decide.{decLe}
 use Rattle.theory.specs.Sum.{sumTo}
-use Rattle.theory.specs.Counts.{Load, Sound, unit, roundTime, Augmenting, wholeLoad, Overloaded}
-use Rattle.theory.proofs.Sum.{sum-none, sum-grows, sum-grows-strictly, sum-times}
-use Rattle.theory.proofs.Rounds.{unit-some}
+use Rattle.theory.specs.Counts.{Load, Sound, unit, roundTime, needed, Augmenting, Accepted, wholeLoad, Overloaded}
+use Rattle.theory.specs.Rounds.{need, asked, Sustains}
+use Rattle.theory.specs.Reasons.{withBuffers, NeverKeepsUp, tenths}
+use Rattle.theory.proofs.Sum.{sum-none, sum-grows, sum-grows-strictly, sum-plus, sum-times}
+use Rattle.theory.proofs.Rounds.{need-some, unit-some, asked-augmenting}
 
 module _ (l : Load) (s : Sound l) where
   full-some : 1 ≤ l .cylinder * unit l
@@ -44,3 +48,80 @@ module _ (l : Load) (s : Sound l) where
           mul-le-mul-right (unit l)
           (rw (← sum-times (λ i. l .stream i .time (m i)) (l .cylinder) (l .playing))
           (sum-grows _ _ (l .playing) (λ i b. rw (mul-comm (l .stream i .time (m i)) (l .cylinder)) (s .laws i b .low (m i)))))
+
+  -- K, the sum of every session's weight and spare: K x D is a time that sustains, where the load is light.
+  ample : ℕ
+  ample = sumTo (λ i. l .stream i .weight + l .stream i .spare) (l .playing)
+
+  -- N L <= V K + K <= N D K: each session is asked for R K + 1 blocks.
+  ample-sustains : wholeLoad l < l .cylinder * unit l → Sustains l (ample * unit l)
+  unfolding need ample
+  ample-sustains light =
+      le-of-mul-le-mul-right
+      (omega (
+        arith,
+        takes,
+        mul-le-mul-right {m = wholeLoad l + 1} {n = l .cylinder * unit l} ample (omega arith),
+        add-mul (wholeLoad l) 1 ample,
+        mul-comm (l .cylinder * unit l) ample,
+        ap (λ (x : ℕ). ample * x) (mul-comm (l .cylinder) (unit l)),
+        mul-assoc ample (unit l) (l .cylinder),
+      ))
+      (s .cylinder)
+    where
+      asks : (i : ℕ) → asked l (ample * unit l) i ≡ l .stream i .rate * ample + 1
+      asks i =
+          ap (λ (x : ℕ). x / unit l + 1) (sym (mul-assoc (l .stream i .rate) ample (unit l)))
+          ∙ ap (λ (x : ℕ). x + 1) (mul-div-cancel (l .stream i .rate * ample) (unit-some l s))
+
+      each : (i : ℕ) → i < l .playing →
+          l .stream i .time (asked l (ample * unit l) i) * l .cylinder
+          ≤ l .stream i .rate * l .stream i .weight * ample + (l .stream i .weight + l .stream i .spare)
+      each i b =
+          rw (asks i)
+          (omega (
+            arith,
+            s .laws i b .high (l .stream i .rate * ample + 1),
+            mul-comm (l .cylinder) (l .stream i .time (l .stream i .rate * ample + 1)),
+            add-mul (l .stream i .rate * ample) 1 (l .stream i .weight),
+            mul-right-comm (l .stream i .rate) ample (l .stream i .weight),
+          ))
+
+      takes : roundTime l (asked l (ample * unit l)) * l .cylinder ≤ wholeLoad l * ample + ample
+      takes =
+          omega (
+            arith,
+            sum-grows _ _ (l .playing) each,
+            sum-times (λ i. l .stream i .time (asked l (ample * unit l) i)) (l .cylinder) (l .playing),
+            sum-plus (λ i. l .stream i .rate * l .stream i .weight * ample) (λ i. l .stream i .weight + l .stream i .spare) (l .playing),
+            sum-times (λ i. l .stream i .rate * l .stream i .weight) ample (l .playing),
+          )
+
+  -- Below a hundred per cent some time sustains,
+  pub light-has-time : (Overloaded l → ⊥) → (t : ℕ) × Sustains l t
+  light-has-time light = (ample * unit l, ample-sustains (omega arith))
+
+  -- so the test tells whether the drive can ever keep up,
+  pub overloaded-exactly : Overloaded l ↔ NeverKeepsUp l
+  overloaded-exactly = (λ full m c a. overload-refuses full m a, λ never. from never (decLe (l .cylinder * unit l) (wholeLoad l)))
+    where
+      from : NeverKeepsUp l → Dec (Overloaded l) → Overloaded l
+      from never (yes full) = full
+      from never (no light) =
+          let t = light-has-time light in
+          absurd (never (asked l (t .0)) (λ i b. need-some _ _ _) (asked-augmenting l s (t .0) (t .1)))
+
+  -- and so do the tenths of a per cent, though rounded down.
+  pub tenths-overload : Overloaded l ↔ (1000 ≤ tenths l)
+  unfolding tenths
+  tenths-overload =
+      let e : (1000 ≤ tenths l) ↔ (1000 * (l .cylinder * unit l) ≤ wholeLoad l * 1000) = le-div-iff-mul-le full-some in
+      (λ full. e .1 (omega arith), λ h. (let g = e .0 h in omega arith))
+
+-- A drive that never keeps up is one that no buffers help.
+pub whatever-buffers : (l : Load) → NeverKeepsUp l ↔ ((b : ℕ → ℕ) → Accepted (withBuffers b l) → ⊥)
+whatever-buffers l = (
+  λ never b a. never (a .0) (a .1 .counted) (a .1 .augmenting),
+  λ none m c a.
+      none (λ i. needed l i (m i)) (m, record { counted = c; augmenting = a; feasible = λ i h. le-refl (needed l i (m i)) }),
+)

@@ -4,7 +4,7 @@ use mathlib.Core.Path.{_≡_, refl, sym, _∙_, ap}
 use mathlib.Core.Logic.{if-pos, if-neg}
 use mathlib.Core.List.{List, _∷_, [], _++_}
 use native.Mathlib.Omega.{arith}
-use native.Mathlib.Nat.{le-of-eq, le-trans}
+use native.Mathlib.Nat.{le-of-eq, le-trans, add-le-add, mul-le-mul}
 use native.Mathlib.Decide.{decLt}
 use lib.ListN.{length, take, drop, getD, length-drop, List·getD-append}
 use lib.Seq.{getD-append-add, getD-take, getD-drop, length-take-le}
@@ -20,8 +20,9 @@ use Rattle.cost.proofs.Costs.{session-laws, read-cheaper}
 use Rattle.theory.specs.Counts.{Sound, Feasible, Good, Smallest}
 use Rattle.theory.specs.Lighter.{Light, Lighter}
 use Rattle.theory.specs.Shows.{loadOf, Quicker, Easier, Eased, without, stoodAt, Lightened, eased, left-out, then}
+use Rattle.theory.specs.Reasons.{tenths}
 use Rattle.theory.proofs.Rounds.{count-capped}
-use Rattle.theory.proofs.Lighter.{lighter-then, lighter-good}
+use Rattle.theory.proofs.Lighter.{lighter-then, lighter-good, lighter-tenths}
 
 -- A show within its limits is a load of which the theory holds.
 pub show-sound : (s : Show) → ShowWithin s → Sound (loadOf s)
@@ -55,6 +56,12 @@ easier-light a b e i j h =
           le-trans (worst-cheaper (a .drive .cylinder) (costOf a i) (costOf b j) (cost-cheaper a b i j h) n)
           (le-of-eq (ap (λ (d : Drive). worstTime (d .cylinder) (costOf b j) n) e));
     }
+
+easier-weight :
+    (a b : Show) → a .drive ≡ b .drive → (i j : ℕ) → Easier a b i j → loadOf a .stream i .weight ≤ loadOf b .stream j .weight
+easier-weight a b e i j h =
+    let c = cost-cheaper a b i j h in
+    add-le-add (mul-le-mul (le-of-eq (ap (λ (d : Drive). d .cylinder) e)) (c .each)) (c .cross)
 
 pub eased-lighter : (a b : Show) → Eased a b → Lighter (loadOf a) (loadOf b) (λ i. i)
 eased-lighter a b h =
@@ -126,16 +133,18 @@ module _ (s : Show) (k : ℕ) (inside : k < s .playing) (held : s .playing ≤ l
   stood-rising i j h (no l) (yes g) = absurd (l (omega arith))
   stood-rising i j h (no l) (no g) = rw (if-neg (decLt i k) l i (i + 1), if-neg (decLt j k) g j (j + 1)) (omega arith)
 
+  left-out-easier : (i : ℕ) → i < s .playing - 1 → Easier (without k s) s i (stoodAt k i)
+  left-out-easier i h =
+      let e = stood i h (decLt i k) in
+      easier-same (without k s) s i (stoodAt k i) e (ap (λ (x : Session). layoutAt s (x .layout)) e)
+
   pub left-out-lighter : Lighter (loadOf (without k s)) (loadOf s) (stoodAt k)
   left-out-lighter =
       record {
         block = refl;
         inside = λ i h. stood-inside i h (decLt i k);
         rising = λ i j h g. stood-rising i j h (decLt i k) (decLt j k);
-        stream = λ i h.
-            (let e = stood i h (decLt i k) in
-            easier-light (without k s) s refl i (stoodAt k i)
-            (easier-same (without k s) s i (stoodAt k i) e (ap (λ (x : Session). layoutAt s (x .layout)) e)));
+        stream = λ i h. easier-light (without k s) s refl i (stoodAt k i) (left-out-easier i h);
       }
 
   -- What is left is within the limits.
@@ -156,6 +165,16 @@ lightened-lighter a b e (left-out k h g) = left-out-lighter b k h g
 lightened-lighter a c e (then {b = b} {e = p} {f = q} g h) =
     lighter-then (loadOf a) (loadOf b) (loadOf c) p q (lightened-lighter a b p g) (lightened-lighter b c q h)
 
+-- Nothing that makes a show lighter gives the drive more to do.
+pub tenths-lighter : (a b : Show) (e : ℕ → ℕ) → Lightened a b e → tenths (loadOf a) ≤ tenths (loadOf b)
+tenths-lighter a b e (eased h) =
+    lighter-tenths (loadOf a) (loadOf b) e (eased-lighter a b h) (ap (λ (d : Drive). d .cylinder) (h .drive))
+    (λ i l. easier-weight a b (h .drive) i i (h .session i l))
+tenths-lighter a b e (left-out k h g) =
+    lighter-tenths (loadOf a) (loadOf b) e (left-out-lighter b k h g) refl
+    (λ i l. easier-weight a b refl i (stoodAt k i) (left-out-easier b k h g i l))
+tenths-lighter a c e (then {b = b} {e = p} {f = q} g h) = le-trans (tenths-lighter a b p g) (tenths-lighter b c q h)
+
 -- ---- unused places
 
 pub alike-back : (s t : Show) → Alike s t → Alike t s
@@ -169,7 +188,7 @@ alike-back s t a =
     }
 
 -- Shows that agree below their counts are no harder than each other ..
-alike-eased : (s t : Show) → Alike s t → ShowWithin s → Eased s t
+pub alike-eased : (s t : Show) → Alike s t → ShowWithin s → Eased s t
 alike-eased s t a w =
     record {
       drive = a .drive;

@@ -38,6 +38,11 @@ pub sum-longer : (f : ℕ → ℕ) {m n : ℕ} → m ≤ n → sumTo f m ≤ sum
 unfolding sumTo
 sum-longer f {m} {n} h = le-ind (λ k. sumTo f m ≤ sumTo f k) (le-refl (sumTo f m)) (λ k l g. omega arith) n h
 
+pub sum-plus : (f g : ℕ → ℕ) (n : ℕ) → sumTo (λ i. f i + g i) n ≡ sumTo f n + sumTo g n
+unfolding sumTo
+sum-plus f g zero = refl
+sum-plus f g (suc n) = let p = sum-plus f g n in omega arith
+
 pub sum-times : (f : ℕ → ℕ) (k n : ℕ) → sumTo (λ i. f i * k) n ≡ sumTo f n * k
 unfolding sumTo
 sum-times f k zero = sym (zero-mul k)
