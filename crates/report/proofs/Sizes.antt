@@ -8,28 +8,26 @@ use native.Mathlib.Numerals.{add-one}
 use native.Mathlib.Omega.{arith}
 use lib.ListN.{length, length-append}
 use Rattle.drive.specs.declared.Show.{Show}
-use Rattle.drive.specs.declared.refusal.Refusal.{Refusal}
 use Rattle.drive.specs.declared.refusal.Refusal.the-variants.{NoSet}
 use Rattle.drive.specs.Limits.{ShowWithin}
-use Rattle.drive.specs.Refusals.{numberOf, placeOf}
 use Rattle.cost.specs.Bound.{countMost, worstMost}
 use Rattle.cost.specs.Worst.{costOf}
 use Rattle.cost.proofs.Bound.{worst-capped}
 use Rattle.cost.proofs.Costs.{cost-limited}
 use Rattle.showfile.proofs.Readable.{read-within}
+use Rattle.text.specs.Ascii.{ascii}
+use Rattle.text.specs.Decimal.{decimal}
+use Rattle.text.specs.Lines.{twoLine}
+use Rattle.text.specs.Puts.{Room}
+use Rattle.text.proofs.Digits.{decimal-few}
+use Rattle.text.proofs.Lines.{two-length, refused-few}
 use Rattle.theory.specs.Counts.{Load, Good, roundTime, needed}
 use Rattle.theory.specs.Shows.{loadOf}
 use Rattle.theory.proofs.Sum.{sum-capped}
 use Rattle.theory.proofs.Shows.{feasible-few}
-use Rattle.report.specs.Ascii.{ascii}
-use Rattle.report.specs.Text.{decimal, twoLine, fourLine, refusedText, sessionLine, sessionLines, acceptedText}
+use Rattle.report.specs.Text.{fourLine, sessionLine, sessionLines, acceptedText}
 use Rattle.report.specs.Answers.{loadIn, TextIs, granted, eight, unread, textMost}
-use Rattle.report.specs.Steps.{Room}
-use Rattle.report.proofs.Digits.{decimal-few, decimal-most}
 use Rattle.report.proofs.Texts.{lines-none, lines-more}
-
-two-length : (word : List ℕ) (a b : ℕ) → length (twoLine word a b) ≡ length word + length (decimal a) + length (decimal b) + 2
-two-length word a b = simp length-append (omega arith)
 
 four-length :
     (a b c d : ℕ) → length (fourLine a b c d) ≡ length (decimal a) + length (decimal b) + length (decimal c) + length (decimal d) + 4
@@ -92,18 +90,10 @@ module _ (l : Load) (m : ℕ → ℕ) (h : Small l m) where
       let whole = length-append (twoLine (ascii "accepted ") (l .playing) (roundTime l m)) (sessionLines l m (l .playing)) in
       omega arith
 
--- whatever the number and the place
-pub refused-few : (w : Refusal) → length (refusedText w) ≤ textMost
-refused-few w =
-    let number = decimal-most (numberOf w) in
-    let place = decimal-most (placeOf w) in
-    let whole = two-length (ascii "refused ") (numberOf w) (placeOf w) in
-    omega arith
-
 pub text-most : (f t : List ℕ) → TextIs f t → length t ≤ textMost
 text-most f t (granted m e s) = accepted-few (loadIn f) m (good-small _ (read-within f e) m (s .good))
-text-most f t (eight e none) = refused-few NoSet
-text-most f t (unread w e) = refused-few w
+text-most f t (eight e none) = let g = refused-few NoSet in omega arith
+text-most f t (unread w e) = let g = refused-few w in omega arith
 
 -- A buffer that takes every text has room for this one.
 pub text-room : (f t b : List ℕ) → TextIs f t → textMost ≤ length b → Room b 0 t

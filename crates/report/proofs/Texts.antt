@@ -9,24 +9,23 @@ use lib.ListN.{getD}
 use Rattle.drive.specs.declared.Show.{Show}
 use Rattle.drive.specs.declared.refusal.Refusal.{Refusal}
 use Rattle.drive.specs.declared.refusal.Refusal.the-variants.{NoSet}
-use Rattle.drive.specs.declared.refusal.Told.{Told}
 use Rattle.drive.specs.declared.refusal.Check.the-variants.{Within, Refused}
-use Rattle.drive.specs.Refusals.{toldOf}
 use Rattle.drive.proofs.Checks.{within-refused}
 use Rattle.showfile.specs.declared.Reading.{Reading}
 use Rattle.showfile.specs.Answers.{readOf}
 use Rattle.showfile.proofs.Readable.{read-within}
+use Rattle.text.specs.Ascii.{ascii}
+use Rattle.text.specs.Lines.{twoLine, refusedText}
 use Rattle.theory.specs.Counts.{Load, roundTime, needed}
 use Rattle.theory.specs.Shows.{loadOf}
-use Rattle.theory.proofs.Rounds.{round-same, smallest-once, smallest-same}
+use Rattle.theory.proofs.Rounds.{round-same, smallest-once}
 use Rattle.verdict.specs.declared.Decision.{Decision}
 use Rattle.verdict.specs.declared.Verdict.the-variants as verdict
 use Rattle.verdict.specs.Answers.{DecisionIs, accepted, no-set, outside, row, setOf}
-use Rattle.verdict.proofs.Sets.{set-of-row, times-same}
+use Rattle.verdict.proofs.Sets.{set-of-row, row-smallest, times-same}
 use Rattle.verdict.proofs.Once.{within-outside}
 use Rattle.verdict.proofs.Decisions.{accepted-refused}
-use Rattle.report.specs.Ascii.{ascii}
-use Rattle.report.specs.Text.{twoLine, fourLine, refusedText, sessionLine, sessionLines, acceptedText}
+use Rattle.report.specs.Text.{fourLine, sessionLine, sessionLines, acceptedText}
 use Rattle.report.specs.Answers.{loadIn, TextIs, granted, eight, unread}
 use Rattle.report.specs.Steps.{Timed}
 
@@ -45,10 +44,6 @@ pub line-made :
 line-made s counts times h i l =
     ap (λ (t : ℕ). fourLine i (getD counts i 0) t (needed (loadOf s) i (getD counts i 0)))
     (ap (λ (x : List ℕ). getD x i 0) (h .times) ∙ set-of-row (loadOf s) (λ k. loadOf s .stream k .time (setOf counts k)) i l)
-
--- A refusal's line, of its number and its place.
-pub refusal-made : (w : Refusal) (t : Told) → t ≡ toldOf w → refusedText w ≡ twoLine (ascii "refused ") (t .number) (t .place)
-refusal-made w t e = ap (λ (x : Told). twoLine (ascii "refused ") (x .number) (x .place)) (sym e)
 
 -- ---- one text for a file
 
@@ -90,7 +85,7 @@ module _ (f : List ℕ) (e : readOf f .check ≡ Within) where
   decided-yes d (accepted m w s) g =
       let back : (i : ℕ) → i < loadIn f .playing → m i ≡ setOf (row (loadIn f) m) i = (λ i h. sym (set-of-row (loadIn f) m i h)) in
       record {
-        told = granted (setOf (row (loadIn f) m)) e (smallest-same (loadIn f) m (setOf (row (loadIn f) m)) back s);
+        told = granted (setOf (row (loadIn f) m)) e (row-smallest (loadIn f) m s);
         timed = record { within = w; times = times-same (loadIn f) m (setOf (row (loadIn f) m)) back };
         round = round-same (loadIn f) m (setOf (row (loadIn f) m)) back;
       }

@@ -1,16 +1,17 @@
 -- What a file is answered, and what the lent buffer then holds: docs/RULES.md, section 8.
-use Prim.Native.Nat.{ℕ, _≤_, _<_}
+use Prim.Native.Nat.{ℕ}
 use mathlib.Core.Path.{_≡_}
 use mathlib.Core.List.{List}
-use lib.ListN.{length}
 use Rattle.drive.specs.declared.refusal.Refusal.{Refusal}
-use Rattle.drive.specs.declared.refusal.Refusal.the-variants.{NoSet, BufferShort}
+use Rattle.drive.specs.declared.refusal.Refusal.the-variants.{NoSet}
 use Rattle.drive.specs.declared.refusal.Check.the-variants.{Within, Refused}
 use Rattle.showfile.specs.declared.Written.{Written}
-use Rattle.showfile.specs.Answers.{readOf, written, writtenOver}
+use Rattle.showfile.specs.Answers.{readOf}
+use Rattle.text.specs.Lines.{refusedText}
+use Rattle.text.specs.Told.{ToldIs}
 use Rattle.theory.specs.Counts.{Load, Accepted, Smallest}
 use Rattle.theory.specs.Shows.{loadOf}
-use Rattle.report.specs.Text.{refusedText, acceptedText}
+use Rattle.report.specs.Text.{acceptedText}
 
 -- the show in a file, as the verdict sees it
 abbrev pub loadIn : List ℕ → Load
@@ -26,8 +27,6 @@ pub data TextIs (f : List ℕ) : List ℕ → Type 0 where
 abbrev pub textMost : ℕ
 textMost = 594
 
--- A report on the file f into the buffer b. The text stands from the first byte on, and every later byte is as it was. A buffer too
--- short for the longest text is 16, whatever the file: nothing is put, and every byte is as it was.
-pub data ReportIs (f b : List ℕ) : Written → List ℕ → Type 0 where
-  told : (t : List ℕ) → TextIs f t → textMost ≤ length b → ReportIs f b (written Within (length t)) (writtenOver Within t b)
-  short : length b < textMost → ReportIs f b (written (Refused BufferShort) 0) b
+-- A report on the file f into the buffer b: the file's text, in a buffer that takes every text; another buffer is 16, whatever the file.
+abbrev pub ReportIs : List ℕ → List ℕ → Written → List ℕ → Type 0
+ReportIs f b r x = ToldIs (TextIs f) textMost b r x

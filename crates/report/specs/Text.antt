@@ -1,39 +1,13 @@
--- The calculator's text, as bytes: docs/RULES.md, section 8.
-use Prim.Native.Nat.{ℕ, zero, suc, _+_, _/_, _%_}
-use mathlib.Core.List.{List, [], _∷_, _++_}
-use mathlib.Core.Logic.{ite}
-use native.Mathlib.Decide.{decLt}
-use Rattle.drive.specs.declared.refusal.Refusal.{Refusal}
-use Rattle.drive.specs.Refusals.{numberOf, placeOf}
+-- The calculator's text, as bytes: docs/RULES.md, section 8. A refusal's line is in the crate `text`.
+use Prim.Native.Nat.{ℕ, zero, suc}
+use mathlib.Core.List.{List, [], _++_}
+use Rattle.text.specs.Ascii.{ascii}
+use Rattle.text.specs.Lines.{spaced, ended, twoLine}
 use Rattle.theory.specs.Counts.{Load, roundTime, needed}
-use Rattle.report.specs.Ascii.{ascii}
 
--- the digits of n, f of them at most; 48 is the digit 0
-unfoldable pub digits : ℕ → ℕ → List ℕ
-digits zero n = []
-digits (suc f) n = ite (decLt n 10) ((48 + n) ∷ []) (digits f (n / 10) ++ ((48 + n % 10) ∷ []))
-
--- a number in decimal: 64 bits have 20 digits at most
-unfoldable pub decimal : ℕ → List ℕ
-decimal n = digits 20 n
-
--- a number and a space; a number and the end of the line
-abbrev pub spaced : ℕ → List ℕ
-spaced n = decimal n ++ ascii " "
-
-abbrev pub ended : ℕ → List ℕ
-ended n = decimal n ++ ascii "\n"
-
--- two numbers after a word, and four numbers, on a line
-abbrev pub twoLine : List ℕ → ℕ → ℕ → List ℕ
-twoLine word a b = word ++ (spaced a ++ ended b)
-
+-- four numbers on a line
 abbrev pub fourLine : ℕ → ℕ → ℕ → ℕ → List ℕ
 fourLine a b c d = spaced a ++ (spaced b ++ (spaced c ++ ended d))
-
--- a refusal: `refused`, number, place
-abbrev pub refusedText : Refusal → List ℕ
-refusedText w = twoLine (ascii "refused ") (numberOf w) (placeOf w)
 
 -- a session: its number, its count, U(count), the smallest buffer that takes the count
 abbrev pub sessionLine : Load → (ℕ → ℕ) → ℕ → List ℕ

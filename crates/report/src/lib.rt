@@ -1,17 +1,16 @@
 // The calculator's answer to a show file, as text in a lent buffer. docs/RULES.md, section 8.
-mod text;
-
 ghost use mathlib.Core.Path.{_≡_};
 ghost use Prim.Native.Nat.{_+_, _*_, _≤_};
 ghost use lib.ListN.{length};
 ghost use Rattle.theory.specs.Counts.{roundTime};
 ghost use Rattle.theory.specs.Shows.{loadOf};
 ghost use Rattle.verdict.specs.Answers.{setOf};
-ghost use Rattle.report.specs.Text.{fourLine, refusedText, sessionLines, acceptedText};
-ghost use Rattle.report.specs.Answers.{ReportIs, textMost};
-ghost use Rattle.report.specs.Steps.{Room, Put, Timed, Texted};
-use crate::text::put_four;
-use crate::text::put_two;
+ghost use Rattle.text.specs.Lines.{twoLine, refusedText};
+ghost use Rattle.text.specs.Puts.{Room, Put};
+ghost use Rattle.text.specs.Told.{Texted};
+ghost use Rattle.report.specs.Text.{fourLine, sessionLines, acceptedText};
+ghost use Rattle.report.specs.Answers.{TextIs, ReportIs, textMost};
+ghost use Rattle.report.specs.Steps.{Timed};
 use drive::Show;
 use drive::refusal::Check;
 use drive::refusal::Refusal;
@@ -21,6 +20,25 @@ use verdict::Verdict;
 
 // No text is longer.
 pub const TEXT_MOST: usize = 594;
+
+// A word and two numbers.
+fn put_two(out: &mut [u8], at: usize, word: &[u8], a: u64, b: u64) -> usize
+    requires { ⌜ Room (now out) at (twoLine (now word) a b) ⌝ }
+    ensures { λ r. ⌜ Put (now (out .entry)) at (twoLine (now (word .entry)) a b) (now (out .exit)) r ⌝ }
+{
+    let second = text::put_numbered(out, at, word, a, b" ");
+    text::put_numbered(out, second, b"", b, b"\n")
+}
+
+fn put_four(out: &mut [u8], at: usize, a: u64, b: u64, c: u64, d: u64) -> usize
+    requires { ⌜ Room (now out) at (fourLine a b c d) ⌝ }
+    ensures { λ r. ⌜ Put (now (out .entry)) at (fourLine a b c d) (now (out .exit)) r ⌝ }
+{
+    let second = text::put_numbered(out, at, b"", a, b" ");
+    let third = text::put_numbered(out, second, b"", b, b" ");
+    let fourth = text::put_numbered(out, third, b"", c, b" ");
+    text::put_numbered(out, fourth, b"", d, b"\n")
+}
 
 fn put_refusal(out: &mut [u8], why: Refusal) -> usize
     requires { ⌜ textMost ≤ length (now out) ⌝ }
@@ -88,7 +106,7 @@ fn put_accepted(out: &mut [u8], show: Show, decision: Decision) -> usize
 // The text for a file, into a buffer that takes every text.
 fn put_text(file: &[u8], out: &mut [u8]) -> usize
     requires { ⌜ textMost ≤ length (now out) ⌝ }
-    ensures { λ r. ⌜ Texted (now (file .entry)) (now (out .entry)) (now (out .exit)) r ⌝ }
+    ensures { λ r. ⌜ Texted (TextIs (now (file .entry))) (now (out .entry)) (now (out .exit)) r ⌝ }
 {
     let got = showfile::read(file);
     let check = got.check;

@@ -15,10 +15,10 @@ use Rattle.cost.specs.Bound.{Limited, worstTime}
 use Rattle.cost.specs.Worst.{costOf, costsOf, noCost}
 use Rattle.cost.proofs.Costs.{cost-limited, costs-at}
 use Rattle.theory.specs.Sum.{sumTo}
-use Rattle.theory.specs.Counts.{Load, unit, roundTime, Good}
+use Rattle.theory.specs.Counts.{Load, unit, roundTime, Good, Smallest}
 use Rattle.theory.specs.Shows.{loadOf}
 use Rattle.theory.proofs.Sum.{sum-none, sum-more}
-use Rattle.theory.proofs.Rounds.{need-enough, need-least, need-some, unit-some, round-same}
+use Rattle.theory.proofs.Rounds.{need-enough, need-least, need-some, unit-some, round-same, smallest-same}
 use Rattle.theory.proofs.Shows.{show-sound}
 use Rattle.verdict.specs.Answers.{row, timesOf, setOf, TrialIs, holds, fails}
 use Rattle.verdict.specs.Steps.{spanOf, givenMost, timeMost, Held, Holds, timedOf}
@@ -160,6 +160,10 @@ module _ (s : Show) (w : ShowWithin s) (m : List ℕ) (x : Timed) (e : x ≡ tim
 -- A row, read as a set, is what it was filled with.
 pub set-of-row : (l : Load) (f : ℕ → ℕ) (i : ℕ) → i < l .playing → setOf (row l f) i ≡ f i
 set-of-row l f i h = filled-at 16 0 f (l .playing) i 0 h
+
+-- So the smallest set, as a row, is the smallest.
+pub row-smallest : (l : Load) (m : ℕ → ℕ) → Smallest l m → Smallest l (setOf (row l m))
+row-smallest l m = smallest-same l m (setOf (row l m)) (λ i h. sym (set-of-row l m i h))
 
 pub times-same : (l : Load) (m o : ℕ → ℕ) → ((i : ℕ) → i < l .playing → m i ≡ o i) → timesOf l m ≡ timesOf l o
 times-same l m o h = ap (padded 16 0) (listed-same _ _ (l .playing) (λ i g. ap (l .stream i .time) (h i g)))

@@ -24,7 +24,7 @@ use Rattle.verdict.specs.declared.Trial.{Trial}
 use Rattle.verdict.specs.Answers.{DecisionIs, accepted, no-set, outside, TrialIs, holds, fails, untried, row, timesOf, acceptedWith, timedAs}
 
 module _ (s t : Show) (a : Alike s t) (w : ShowWithin s) where
-  within-alike : ShowWithin t
+  pub within-alike : ShowWithin t
   within-alike = check-within t (sym (alike-check s t a) ∙ within-check s w)
 
   time-alike : (i : ℕ) → i < s .playing → (n : ℕ) → loadOf s .stream i .time n ≡ loadOf t .stream i .time n

@@ -7,9 +7,10 @@ use Rattle.theory.specs.Counts.{roundTime}
 use Rattle.theory.specs.Shows.{loadOf}
 use Rattle.verdict.specs.declared.Decision.{Decision}
 use Rattle.verdict.specs.Answers.{setOf}
-use Rattle.report.specs.Ascii.{ascii}
-use Rattle.report.specs.Text.{twoLine, sessionLines}
-use Rattle.report.proofs.Puts.{room-as, room-first, room-then, put-as, put-then}
+use Rattle.text.specs.Ascii.{ascii}
+use Rattle.text.specs.Lines.{twoLine}
+use Rattle.report.specs.Text.{sessionLines}
+use Rattle.text.proofs.Puts.{room-as, room-first, room-then, put-as, put-then}
 use borrow.Author.Needs.{needs}
 use Rattle.report.proofs.put_accepted.Statement.{statement}
 use Rattle.report.proofs.put_accepted.Tie as tie

@@ -1,9 +1,8 @@
 -- One line, which every buffer for every text takes. Assumes nothing.
 use mathlib.Core.Path.{sym}
 use native.Mathlib.Omega.{arith}
-use Rattle.report.proofs.Puts.{room-as, put-as}
-use Rattle.report.proofs.Texts.{refusal-made}
-use Rattle.report.proofs.Sizes.{refused-few}
+use Rattle.text.proofs.Puts.{room-as, put-as}
+use Rattle.text.proofs.Lines.{refusal-made, refused-few}
 use borrow.Author.Needs.{needs}
 use Rattle.report.proofs.put_refusal.Statement.{statement}
 use Rattle.report.proofs.put_refusal.Tie as tie

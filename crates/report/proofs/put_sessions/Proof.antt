@@ -5,7 +5,7 @@ use native.Mathlib.Omega.{arith}
 use Rattle.theory.specs.Shows.{loadOf}
 use Rattle.verdict.specs.Answers.{setOf}
 use Rattle.report.specs.Text.{sessionLine, sessionLines}
-use Rattle.report.proofs.Puts.{PutTo, pieces-begun, piece-room, piece-put, pieces-ended, put-as, room-as}
+use Rattle.text.proofs.Puts.{PutTo, pieces-begun, piece-room, piece-put, pieces-ended, put-as, room-as}
 use Rattle.report.proofs.Texts.{lines-none, lines-more, line-made}
 use Rattle.report.proofs.put_sessions.Statement.{statement}
 use Rattle.report.proofs.put_sessions.Tie as tie

@@ -21,7 +21,7 @@ returns : tie.Need-returns
 returns c =
     record {
       text = _;
-      told = told-unread _ (c .before .before .before .before .before .before .before .read .result) (c .before .before .before .before .before .before .before .read .ensures) _ (c .before .before .before .before .before .check .given .1);
+      holds = told-unread _ (c .before .before .before .before .before .before .before .read .result) (c .before .before .before .before .before .before .before .read .ensures) _ (c .before .before .before .before .before .check .given .1);
       put = c .before .before .put-refusal .ensures;
     }
 
@@ -44,7 +44,7 @@ returns-2 : tie.Need-returns-2
 returns-2 c =
     record {
       text = _;
-      told = told-no _ (c .before .before .before .before .before .before .before .before .before .before .before .read .result) (c .before .before .before .before .before .before .before .before .before .before .before .read .ensures) (c .before .before .before .before .before .before .before .before .before .enum-told .given .1) (c .before .before .before .before .before .before .before .decide .result) _ (c .before .before .before .before .before .before .before .decide .ensures) (c .before .before .before .before .before .verdict .given .1);
+      holds = told-no _ (c .before .before .before .before .before .before .before .before .before .before .before .read .result) (c .before .before .before .before .before .before .before .before .before .before .before .read .ensures) (c .before .before .before .before .before .before .before .before .before .enum-told .given .1) (c .before .before .before .before .before .before .before .decide .result) _ (c .before .before .before .before .before .before .before .decide .ensures) (c .before .before .before .before .before .verdict .given .1);
       put = c .before .before .put-refusal2 .ensures;
     }
 
@@ -62,7 +62,7 @@ same-length-3 c = search needs
 returns-3 : tie.Need-returns-3
 returns-3 c =
     let y = told-yes _ (c .before .before .before .before .before .before .before .before .before .before .read .result) (c .before .before .before .before .before .before .before .before .before .before .read .ensures) (c .before .before .before .before .before .before .before .before .enum-told .given .1) (c .before .before .before .before .before .before .decide .result) (c .before .before .before .before .before .before .decide .ensures) (c .before .before .before .before .enum-told2 .given .1) in
-    record { text = _; told = y .told; put = c .before .before .put-accepted .ensures }
+    record { text = _; holds = y .told; put = c .before .before .put-accepted .ensures }
 
 pub put-text-spec : {M : Type 1} → statement M
 put-text-spec =

@@ -1,7 +1,9 @@
 -- Too short, or the text. Assumes nothing.
 use native.Mathlib.Omega.{arith}
-use Rattle.report.specs.Answers.{short}
-use Rattle.report.proofs.Reports.{report-told, report-inside}
+use Rattle.text.specs.Told.{short}
+use Rattle.text.proofs.Told.{told-put, told-inside}
+use Rattle.report.specs.Answers.{textMost}
+use Rattle.report.proofs.Sizes.{text-most}
 use borrow.Author.Needs.{needs}
 use Rattle.report.proofs.report.Statement.{statement}
 use Rattle.report.proofs.report.Tie as tie
@@ -18,8 +20,8 @@ same-length c = search needs
 returns-2 : tie.Need-returns-2
 returns-2 c =
     let p = c .before .before .put-text in
-    let h = report-told _ _ _ _ (p .ensures) (omega arith) in
-    (h, report-inside _ _ _ _ h (p .kept .1 .0))
+    let h = told-put _ textMost _ _ _ (p .ensures) (omega arith) in
+    (h, told-inside _ _ (text-most _) _ _ _ h (p .kept .1 .0))
 
 pub report-spec : {M : Type 1} → statement M
 report-spec = tie.close (tie.spec returns put-text-requires same-length returns-2)

@@ -8,7 +8,7 @@ use native.Mathlib.Decide.{decLt}
 use native.Mathlib.Omega.{arith}
 use lib.ListN.{length, length-append}
 use lib.Dec.{lit<}
-use Rattle.report.specs.Text.{digits, decimal}
+use Rattle.text.specs.Decimal.{digits, decimal}
 
 digits-none : (n : ℕ) → digits 0 n ≡ []
 unfolding digits

@@ -1,14 +1,45 @@
--- Laws of text put into a buffer, piece after piece. Assumes nothing.
+-- Laws of text put into a buffer: what the calls answer, and piece after piece. Assumes nothing.
 use mathlib.Core.Path.{_≡_, refl, sym, ap, subst, _∙_}
 use mathlib.Core.List.{List, [], _∷_, _++_}
+use mathlib.Core.Logic.{if-pos, if-neg}
 use Prim.Native.Nat.{ℕ, _+_, _≤_, _<_}
 use native.Mathlib.Nat.{add-zero, le-refl}
 use native.Mathlib.Numerals.{add-one}
-use native.Mathlib.Decide.{le-ind}
+use native.Mathlib.Decide.{decLe, le-ind}
 use native.Mathlib.Omega.{arith}
 use lib.ListN.{length, set, length-append}
+use Rattle.showfile.specs.Bytes.{over}
 use Rattle.showfile.proofs.ByteLaws.{one-over, over-nothing, over-then}
-use Rattle.report.specs.Steps.{Room, Put}
+use Rattle.text.specs.Puts.{putOver, putTo, Room, Put}
+
+-- ---- what a call answers
+
+-- where there is room ..
+module _ {was : List ℕ} {at : ℕ} {t : List ℕ} (room : Room was at t) where
+  over-room : putOver was at t ≡ over was at t
+  unfolding putOver
+  over-room = if-pos (decLe (at + length t) (length was)) (room .fits) _ _
+
+  to-room : putTo was at t ≡ at + length t
+  unfolding putTo
+  to-room = if-pos (decLe (at + length t) (length was)) (room .fits) _ _
+
+  -- .. the answer says that the text was put ..
+  pub room-put : {after : List ℕ} {next : ℕ} → after ≡ putOver was at t → next ≡ putTo was at t → Put was at t after next
+  room-put e f = record { bytes = e ∙ over-room; upto = f ∙ to-room }
+
+  -- .. and the text that was put is the answer
+  pub put-answers : {after : List ℕ} {next : ℕ} → Put was at t after next → (after ≡ putOver was at t) × (next ≡ putTo was at t)
+  put-answers p = (p .bytes ∙ sym over-room, p .upto ∙ sym to-room)
+
+-- where there is none, nothing is put
+module _ (was : List ℕ) (at : ℕ) (t : List ℕ) (none : at + length t ≤ length was → ⊥) where
+  pub no-room : (was ≡ putOver was at t) × (at ≡ putTo was at t)
+  unfolding putOver putTo
+  no-room =
+      (sym (if-neg (decLe (at + length t) (length was)) none _ _), sym (if-neg (decLe (at + length t) (length was)) none _ _))
+
+-- ---- piece after piece
 
 put-none : (was : List ℕ) (at : ℕ) → Put was at [] was at
 put-none was at = record { bytes = over-nothing was at; upto = sym (add-zero at) }
@@ -42,6 +73,12 @@ module _ {was : List ℕ} {at : ℕ} (t u : List ℕ) (room : Room was at (t ++ 
           bytes = over-then was at t to u (p .bytes) (q .bytes) (sym i) (omega (arith, length-append t u));
           upto = omega (arith, length-append t u);
         }
+
+  -- The same of a call that answers for the first, with what is then said of the second.
+  pub answer-then :
+      {mid after : List ℕ} {to next : ℕ} → (mid ≡ putOver was at t) × (to ≡ putTo was at t) → length mid ≡ length was →
+      (Room mid to u → Put mid to u after next) → Put was at (t ++ u) after next
+  answer-then e k rest = let p = room-put room-first (e .0) (e .1) in put-then p (rest (room-then p k))
 
 -- Pieces put one after the other: those below i so far, n in all.
 pub record PutTo (was : List ℕ) (at : ℕ) (so-far : ℕ → List ℕ) (n : ℕ) (out : List ℕ) (i next : ℕ) : Type 0 where

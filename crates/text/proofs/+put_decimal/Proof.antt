@@ -5,18 +5,18 @@ use Prim.Native.Nat.{_+_, _/_, _%_}
 use native.Mathlib.Nat.{div-lt-self, mod-lt}
 use native.Mathlib.Omega.{arith}
 use lib.Dec.{lit<}
-use Rattle.report.specs.Text.{decimal}
-use Rattle.report.proofs.Puts.{room-as, room-first, room-then, put-as, put-then}
-use Rattle.report.proofs.Digits.{decimal-last, decimal-more}
+use Rattle.text.specs.Decimal.{decimal}
+use Rattle.text.proofs.Puts.{room-as, room-first, room-then, put-as, put-then}
+use Rattle.text.proofs.Digits.{decimal-last, decimal-more}
 use Prim.Native.Nat.{ℕ, _<_}
 use borrow.Fn.Kinds.{In}
 use borrow.Fn.PlainCycle.{Measures, is, falls, and}
-use Rattle.report.proofs.text.put_decimal.Reads as put-decimal
-use Rattle.report.proofs.text.put_decimal.Kinds as put-decimal-kinds
-use Rattle.report.proofs.text.+put_decimal.Lts-put_decimal as put-decimal-lts
-use Rattle.report.proofs.text.put_byte.Reads as put-byte-reads
-use Rattle.report.proofs.text.+put_decimal.{statement}
-use Rattle.report.proofs.text.+put_decimal.Tie.{close}
+use Rattle.text.proofs.put_decimal.Reads as put-decimal
+use Rattle.text.proofs.put_decimal.Kinds as put-decimal-kinds
+use Rattle.text.proofs.+put_decimal.Lts-put_decimal as put-decimal-lts
+use Rattle.text.proofs.put_byte.Reads as put-byte-reads
+use Rattle.text.proofs.+put_decimal.{statement}
+use Rattle.text.proofs.+put_decimal.Tie.{close}
 
 abbrev μ-put-decimal : Measures 1 put-decimal-kinds.ps ℕ
 μ-put-decimal κs a = a .1 .1 .0

@@ -1,8 +1,8 @@
 -- One byte. Assumes nothing.
-use Rattle.report.proofs.Puts.{put-one}
+use Rattle.text.proofs.Puts.{put-one}
 use borrow.Author.Needs.{needs}
-use Rattle.report.proofs.text.put_byte.Statement.{statement}
-use Rattle.report.proofs.text.put_byte.Tie as tie
+use Rattle.text.proofs.put_byte.Statement.{statement}
+use Rattle.text.proofs.put_byte.Tie as tie
 
 slice-write-out : tie.Need-slice-write-out
 slice-write-out c = search needs

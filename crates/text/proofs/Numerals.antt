@@ -9,9 +9,9 @@ use lib.Dec.{lit<}
 use lib.ListN.{length, getD, length-append, List·getD-append}
 use lib.Seq.{getD-at}
 use Rattle.drive.specs.Limits.{Between}
-use Rattle.report.specs.Text.{digits, decimal}
-use Rattle.report.specs.Numerals.{spelled, Numeral}
-use Rattle.report.proofs.Digits.{digits-last, digits-more, tenth}
+use Rattle.text.specs.Decimal.{digits, decimal}
+use Rattle.text.specs.Numerals.{spelled, Numeral}
+use Rattle.text.proofs.Digits.{digits-last, digits-more, tenth}
 
 spelled-more : (l : List ℕ) (n d : ℕ) → spelled n (l ++ (d ∷ [])) ≡ 10 * spelled n l + (d - 48)
 unfolding spelled

@@ -6,10 +6,10 @@ use native.Mathlib.Numerals.{add-one}
 use native.Mathlib.Omega.{arith}
 use lib.ListN.{length, getD, take}
 use lib.Seq.{take-suc, take-all}
-use Rattle.report.specs.Steps.{Room}
-use Rattle.report.proofs.Puts.{PutTo, pieces-begun, piece-room, piece-put, pieces-ended, put-as, room-as}
-use Rattle.report.proofs.text.put_word.Statement.{statement}
-use Rattle.report.proofs.text.put_word.Tie as tie
+use Rattle.text.specs.Puts.{Room}
+use Rattle.text.proofs.Puts.{PutTo, pieces-begun, piece-room, piece-put, pieces-ended, put-as, room-as}
+use Rattle.text.proofs.put_bytes.Statement.{statement}
+use Rattle.text.proofs.put_bytes.Tie as tie
 
 -- the bytes of a word are its pieces
 abbrev one-byte : List ℕ → ℕ → List ℕ
@@ -63,8 +63,8 @@ returns c =
     put-as (take-all (length (a .word .now)) (a .word .now) (omega arith))
     (pieces-ended (a .out .now) (a .at) _ _ (l .out) (l .i) (l .next) (l .inv) (omega arith))
 
-pub put-word-spec : {M : Type 1} → statement M
-put-word-spec =
+pub put-bytes-spec : {M : Type 1} → statement M
+put-bytes-spec =
     tie.close
     (tie.spec
     Inv-loop

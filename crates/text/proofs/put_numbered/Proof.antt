@@ -1,0 +1,82 @@
+-- No room, or what stands before the number, the number, and what stands after it. Assumes nothing.
+use mathlib.Core.Path.{_≡_}
+use mathlib.Core.List.{List, _++_}
+use Prim.Native.Nat.{ℕ, _+_}
+use native.Mathlib.Omega.{arith}
+use lib.ListN.{length, length-append}
+use borrow.Author.Needs.{needs}
+use borrow.Author.Tests.{not-true, not-false}
+use Rattle.drive.proofs.Checks.{tells-yes, tells-no}
+use Rattle.text.specs.Decimal.{decimal}
+use Rattle.text.specs.Puts.{Room}
+use Rattle.text.proofs.Puts.{room-first, room-then, put-then, put-answers, no-room}
+use Rattle.text.proofs.put_numbered.Statement.{statement}
+use Rattle.text.proofs.put_numbered.Tie as tie
+
+three-length : (t u v : List ℕ) → length (t ++ (u ++ v)) ≡ length t + (length u + length v)
+three-length t u v = simp length-append
+
+-- what stands before the number, and the rest of the text
+abbrev front : tie.Start → List ℕ
+front s = s .args .before .now
+
+abbrev rest : tie.Start → List ℕ
+rest s = decimal (s .args .n) ++ s .args .after .now
+
+room : (c : tie.Else1) → Room (c .before .before .before .before .before .before .args .out .now) (c .before .before .before .before .before .before .args .at) (front (c .before .before .before .before .before .before) ++ rest (c .before .before .before .before .before .before))
+room c =
+    let a = c .before .before .before .before .before .before .args in
+    let f = tells-yes _ (c .before .fits2 .result) (not-false _ (c .if1 .left)) (c .before .fits2 .ensures) in
+    let w = c .before .before .width .ensures in
+    record { fits = omega (arith, three-length (a .before .now) (decimal (a .n)) (a .after .now)) }
+
+width-requires : tie.Need-width-requires
+width-requires c κs = search needs
+
+fits-requires : tie.Need-fits-requires
+fits-requires c κs = search needs
+
+returns : tie.Need-returns
+returns c =
+    let a = c .before .before .before .before .before .before .args in
+    let f = tells-no _ (c .before .fits2 .result) (not-true _ (c .if1 .taken)) (c .before .fits2 .ensures) in
+    let w = c .before .before .width .ensures in
+    no-room _ _ _ (λ h. f (omega (arith, h, three-length (a .before .now) (decimal (a .n)) (a .after .now))))
+
+put-bytes-requires : tie.Need-put-bytes-requires
+put-bytes-requires c κs = room-first (front (c .before .before .before .before .before .before .before)) (rest (c .before .before .before .before .before .before .before)) (room (c .before))
+
+-- the room behind what stands before
+room-number : (c : tie.After-put-bytes) → Room (c .put-bytes .last .0) (c .put-bytes .result) (rest (c .before .before .before .before .before .before .before .before))
+room-number c = room-then (front (c .before .before .before .before .before .before .before .before)) (rest (c .before .before .before .before .before .before .before .before)) (room (c .before .before)) (c .put-bytes .ensures) (c .put-bytes .kept .0)
+
+put-decimal-requires : tie.Need-put-decimal-requires
+put-decimal-requires c κs = room-first (decimal (c .before .before .before .before .before .before .before .before .before .before .before .args .n)) (c .before .before .before .before .before .before .before .before .before .before .before .args .after .now) (room-number (c .before .before .before))
+
+put-bytes-requires-2 : tie.Need-put-bytes-requires-2
+put-bytes-requires-2 c κs =
+    let a = c .before .before .before .before .before .before .before .before .before .before .before .before .before .before .before .args in
+    room-then (decimal (a .n)) (a .after .now) (room-number (c .before .before .before .before .before .before .before)) (c .before .before .before .put-decimal .ensures) (c .before .before .before .put-decimal .kept .0)
+
+same-length : tie.Need-same-length
+same-length c = search needs
+
+returns-2 : tie.Need-returns-2
+returns-2 c =
+    let s = c .before .before .before .before .before .before .before .before .before .before .before .before .before .before .before .before .before .before in
+    put-answers (room (c .before .before .before .before .before .before .before .before .before .before .before .before))
+    (put-then (front s) (rest s) (room (c .before .before .before .before .before .before .before .before .before .before .before .before)) (c .before .before .before .before .before .before .before .before .before .before .put-bytes .ensures)
+    (put-then (decimal (s .args .n)) (s .args .after .now) (room-number (c .before .before .before .before .before .before .before .before .before .before)) (c .before .before .before .before .before .before .put-decimal .ensures) (c .before .before .put-bytes2 .ensures)))
+
+pub put-numbered-spec : {M : Type 1} → statement M
+put-numbered-spec =
+    tie.close
+    (tie.spec
+    width-requires
+    fits-requires
+    returns
+    put-bytes-requires
+    put-decimal-requires
+    put-bytes-requires-2
+    same-length
+    returns-2)

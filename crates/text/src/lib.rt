@@ -1,0 +1,101 @@
+// Text put into a lent buffer at a place. Each call answers the place after what it put; where the text does not fit, no byte
+// changes, and it answers the place that was given.
+ghost use mathlib.Core.Path.{_≡_};
+ghost use mathlib.Core.List.{_∷_, _++_, []};
+ghost use Prim.Native.Nat.{_+_, _≤_};
+ghost use lib.ListN.{length};
+ghost use Rattle.drive.specs.Limits.{Tells};
+ghost use Rattle.text.specs.Decimal.{decimal};
+ghost use Rattle.text.specs.Puts.{putOver, putTo, Room, Put};
+
+// A word.
+pub fn put_word(out: &mut [u8], at: usize, word: &[u8]) -> usize
+    ensures { λ r. ⌜ now (out .exit) ≡ putOver (now (out .entry)) at (now (word .entry)) ⌝ }
+    ensures { λ r. ⌜ r ≡ putTo (now (out .entry)) at (now (word .entry)) ⌝ }
+{
+    if !fits(out.len(), at, word.len(), 0, 0) {
+        return at;
+    }
+    put_bytes(out, at, word)
+}
+
+// A number in decimal, with what stands before it and after it.
+pub fn put_numbered(out: &mut [u8], at: usize, before: &[u8], n: u64, after: &[u8]) -> usize
+    ensures { λ r. ⌜ now (out .exit) ≡ putOver (now (out .entry)) at (now (before .entry) ++ (decimal n ++ now (after .entry))) ⌝ }
+    ensures { λ r. ⌜ r ≡ putTo (now (out .entry)) at (now (before .entry) ++ (decimal n ++ now (after .entry))) ⌝ }
+{
+    let digits = width(n);
+    if !fits(out.len(), at, before.len(), digits, after.len()) {
+        return at;
+    }
+    let number = put_bytes(out, at, before);
+    let end = put_decimal(out, number, n);
+    put_bytes(out, end, after)
+}
+
+// Whether three texts fit from `at` on, one after the other.
+fn fits(len: usize, at: usize, first: usize, second: usize, third: usize) -> bool
+    ensures { λ r. ⌜ Tells r (at + (first + (second + third)) ≤ len) ⌝ }
+{
+    if len < at {
+        return false;
+    }
+    let room = len - at;
+    if room < first {
+        return false;
+    }
+    let rest = room - first;
+    if rest < second {
+        return false;
+    }
+    if rest - second < third {
+        return false;
+    }
+    true
+}
+
+// How many digits a number has.
+fn width(n: u64) -> usize
+    ensures { λ r. ⌜ r ≡ length (decimal n) ⌝ }
+{
+    let mut left = n;
+    let mut digits = 1;
+    while left >= 10 {
+        left = left / 10;
+        digits += 1;
+    }
+    digits
+}
+
+fn put_byte(out: &mut [u8], at: usize, b: u8) -> usize
+    requires { ⌜ Room (now out) at (b ∷ []) ⌝ }
+    ensures { λ r. ⌜ Put (now (out .entry)) at (b ∷ []) (now (out .exit)) r ⌝ }
+{
+    out[at] = b;
+    at + 1
+}
+
+fn put_bytes(out: &mut [u8], at: usize, word: &[u8]) -> usize
+    requires { ⌜ Room (now out) at (now word) ⌝ }
+    ensures { λ r. ⌜ Put (now (out .entry)) at (now (word .entry)) (now (out .exit)) r ⌝ }
+{
+    let n = word.len();
+    let mut i = 0;
+    let mut next = at;
+    while i < n {
+        next = put_byte(out, next, word[i]);
+        i += 1;
+    }
+    next
+}
+
+fn put_decimal(out: &mut [u8], at: usize, n: u64) -> usize
+    requires { ⌜ Room (now out) at (decimal n) ⌝ }
+    ensures { λ r. ⌜ Put (now (out .entry)) at (decimal n) (now (out .exit)) r ⌝ }
+{
+    if n < 10 {
+        return put_byte(out, at, b'0' + n as u8);
+    }
+    let last = put_decimal(out, at, n / 10);
+    put_byte(out, last, b'0' + (n % 10) as u8)
+}
