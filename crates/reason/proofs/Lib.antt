@@ -1,0 +1,6 @@
+pub mod Loads
+pub mod Wide
+pub mod Reasons
+pub mod Answers
+pub mod Once
+pub mod Unused

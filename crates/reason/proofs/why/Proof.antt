@@ -1,0 +1,72 @@
+-- `why` tests for overload, decides with the largest buffers, and looks for a count that does not fit its own. Assumes nothing.
+use mathlib.Core.Path.{sym, _∙_}
+use native.Mathlib.Omega.{arith}
+use Rattle.drive.specs.Limits.{ShowWithin}
+use Rattle.drive.proofs.Shows.{check-within}
+use Rattle.reason.specs.Answers.{outside}
+use Rattle.reason.proofs.Reasons.{overloads, beyond-them, wide-counts}
+use borrow.Author.Needs.{needs}
+use Rattle.reason.proofs.why.Statement.{statement}
+use Rattle.reason.proofs.why.Tie as tie
+
+check-requires : tie.Need-check-requires
+check-requires c κs = search needs
+
+enum-known-check : tie.Need-enum-known-check
+enum-known-check c = search needs
+
+returns : tie.Need-returns
+returns c = outside _ (sym (c .before .before .before .check .ensures) ∙ c .before .check2 .given .1)
+
+enum-told : tie.Need-enum-told
+enum-told c = search needs
+
+within : (c : tie.After-enum-told) → ShowWithin (c .before .before .before .args .show)
+within c = check-within _ (sym (c .before .before .check .ensures) ∙ c .enum-told .given .1)
+
+weigh-requires : tie.Need-weigh-requires
+weigh-requires c κs = within c
+
+returns-2 : tie.Need-returns-2
+returns-2 c = overloads _ (within (c .before .before .before)) _ (c .before .before .weigh .ensures .0) (c .before .before .weigh .ensures .1) (let h = c .if1 .taken in omega arith)
+
+widest-requires : tie.Need-widest-requires
+widest-requires c κs = within (c .before .before .before)
+
+decide-requires : tie.Need-decide-requires
+decide-requires c κs = search needs
+
+enum-told-2 : tie.Need-enum-told-2
+enum-told-2 c = search needs
+
+enum-told-3 : tie.Need-enum-told-3
+enum-told-3 c = search needs
+
+returns-3 : tie.Need-returns-3
+returns-3 c =
+    beyond-them _ (within (c .before .before .before .before .before .before .before .before)) _ (c .before .before .before .before .before .before .before .weigh .ensures .0) (c .before .before .before .before .before .before .before .weigh .ensures .1) (let h = c .before .before .before .before .before .if1 .left in omega arith) _
+    (rw (c .before .before .before .before .widest .ensures) at (c .before .before .before .decide .ensures)) _ (c .enum-told3 .given .1)
+
+lowest-short-requires : tie.Need-lowest-short-requires
+lowest-short-requires c κs = (within (c .before .before .before .before .before .before .before .before), wide-counts _ _ (rw (c .before .before .before .before .widest .ensures) at (c .before .before .before .decide .ensures)) (c .enum-told2 .given .1))
+
+returns-4 : tie.Need-returns-4
+returns-4 c = search needs
+
+pub why-spec : {M : Type 1} → statement M
+why-spec =
+    tie.close
+    (tie.spec
+    check-requires
+    enum-known-check
+    returns
+    enum-told
+    weigh-requires
+    returns-2
+    widest-requires
+    decide-requires
+    enum-told-2
+    enum-told-3
+    returns-3
+    lowest-short-requires
+    returns-4)

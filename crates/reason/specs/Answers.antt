@@ -1,0 +1,33 @@
+-- Why a show is refused, and how loaded its drive is: docs/RULES.md, section 11.
+use Prim.Native.Nat.{ℕ}
+use mathlib.Core.Path.{_≡_}
+use Rattle.drive.specs.declared.Show.{Show}
+use Rattle.drive.specs.declared.refusal.Refusal.{Refusal}
+use Rattle.drive.specs.declared.refusal.Check.{Check}
+use Rattle.drive.specs.declared.refusal.Check.the-variants as check
+use Rattle.drive.specs.Limits.{ShowWithin, bufferMost}
+use Rattle.drive.specs.Checks.{showCheck}
+use Rattle.theory.specs.Counts.{Accepted}
+use Rattle.theory.specs.Reasons.{NeverKeepsUp, Beyond, TooSmall, tenths}
+use Rattle.theory.specs.Shows.{loadOf}
+use Rattle.reason.specs.declared.Reason.{Reason}
+use Rattle.reason.specs.declared.Reason.the-variants as reason
+use Rattle.reason.specs.declared.Loaded.{Loaded}
+use Rattle.reason.specs.declared.Loaded.the-variants as loaded
+
+-- Within the limits: none of an accepted show; else one of the three. Outside them it is 2, 5, 6 or 7.
+pub data ReasonIs (s : Show) : Reason → Type 0 where
+  none : ShowWithin s → Accepted (loadOf s) → ReasonIs s reason.None
+  overload : ShowWithin s → NeverKeepsUp (loadOf s) → ReasonIs s reason.Overload
+  beyond : ShowWithin s → Beyond (loadOf s) bufferMost → ReasonIs s reason.Beyond
+  buffer : (i size : ℕ) → ShowWithin s → TooSmall (loadOf s) bufferMost i size → ReasonIs s (reason.Buffer i size)
+  outside : (w : Refusal) → showCheck s ≡ check.Refused w → ReasonIs s (reason.Refused w)
+
+-- the tenths, unless a test refused
+abbrev pub answered : Check → ℕ → Loaded
+answered check.Within n = loaded.Tenths n
+answered (check.Refused w) n = loaded.Refused w
+
+-- The load in tenths of a per cent, or 2, 5, 6, 7.
+unfoldable pub loadedOf : Show → Loaded
+loadedOf s = answered (showCheck s) (tenths (loadOf s))
