@@ -1,0 +1,112 @@
+// The lines and sentences, put into a lent buffer that has room for them.
+ghost use Prim.Native.Nat.{_≤_};
+ghost use lib.ListN.{length};
+ghost use Rattle.drive.specs.declared.refusal.Refusal.the-variants.{LayoutLimits, SessionLimits};
+ghost use Rattle.text.specs.Puts.{Room, Put};
+ghost use Rattle.text.specs.Lines.{paired};
+ghost use Rattle.explain.specs.Text.{loadText, bufferText, sentence};
+ghost use Rattle.explain.specs.Answers.{saidMost};
+use drive::refusal::Refusal;
+
+// Two numbers among words.
+pub(crate) fn put_pair(
+    out: &mut [u8],
+    at: usize,
+    before: &[u8],
+    a: u64,
+    between: &[u8],
+    b: u64,
+    after: &[u8],
+) -> usize
+    requires { ⌜ Room (now out) at (paired (now before) a (now between) b (now after)) ⌝ }
+    ensures { λ r. ⌜ Put (now (out .entry)) at (paired (now (before .entry)) a (now (between .entry)) b (now (after .entry))) (now (out .exit)) r ⌝ }
+{
+    let next = text::put_numbered(out, at, before, a, between);
+    text::put_numbered(out, next, b"", b, after)
+}
+
+// The load as a percentage, among words.
+pub(crate) fn put_load(out: &mut [u8], at: usize, before: &[u8], tenths: u64, after: &[u8]) -> usize
+    requires { ⌜ Room (now out) at (loadText (now before) tenths (now after)) ⌝ }
+    ensures { λ r. ⌜ Put (now (out .entry)) at (loadText (now (before .entry)) tenths (now (after .entry))) (now (out .exit)) r ⌝ }
+{
+    put_pair(out, at, before, tenths / 10, b".", tenths % 10, after)
+}
+
+pub(crate) fn put_buffer(out: &mut [u8], session: u64, size: u64, tenths: u64) -> usize
+    requires { ⌜ saidMost ≤ length (now out) ⌝ }
+    ensures { λ r. ⌜ Put (now (out .entry)) 0 (bufferText session size tenths) (now (out .exit)) r ⌝ }
+{
+    let clip = put_pair(out, 0, b"buffer ", session, b" ", size, b"\nClip ");
+    let load = put_pair(
+        out,
+        clip,
+        b"",
+        session,
+        b", counted from 0, needs a buffer of ",
+        size,
+        b" bytes or more; the drive itself would keep up, working at ",
+    );
+    put_load(out, load, b"", tenths, b" per cent.\n")
+}
+
+// What a refusal of a file means.
+pub(crate) fn put_sentence(out: &mut [u8], at: usize, why: Refusal) -> usize
+    requires { ⌜ Room (now out) at (sentence why) ⌝ }
+    ensures { λ r. ⌜ Put (now (out .entry)) at (sentence why) (now (out .exit)) r ⌝ }
+{
+    match why {
+        Refusal::FileLength => text::put_word(
+            out,
+            at,
+            b"This is no show file, or not all of it: it is too short or too long to be one.\n",
+        ),
+        Refusal::Counts => text::put_word(
+            out,
+            at,
+            b"The show says that it has no layout, or too many layouts or clips.\n",
+        ),
+        Refusal::Distances => text::put_word(
+            out,
+            at,
+            b"The file is damaged: its parts are not where it says they are.\n",
+        ),
+        Refusal::NoteLength => text::put_word(out, at, b"The note in the file is too long.\n"),
+        Refusal::DriveLimits => text::put_word(
+            out,
+            at,
+            b"The block size, or the number of blocks to a cylinder, cannot be right.\n",
+        ),
+        Refusal::LayoutLimits(place) => put_layout(out, at, place as u64),
+        Refusal::SessionLimits(place) => put_clip(out, at, place as u64),
+        _ => text::put_word(out, at, b"The show is refused.\n"),
+    }
+}
+
+// The sentence for 6.
+fn put_layout(out: &mut [u8], at: usize, place: u64) -> usize
+    requires { ⌜ Room (now out) at (sentence (LayoutLimits place)) ⌝ }
+    ensures { λ r. ⌜ Put (now (out .entry)) at (sentence (LayoutLimits place)) (now (out .exit)) r ⌝ }
+{
+    text::put_numbered(
+        out,
+        at,
+        b"Layout ",
+        place,
+        b", counted from 0, has a time that cannot be right.\n",
+    )
+}
+
+// The sentence for 7.
+fn put_clip(out: &mut [u8], at: usize, place: u64) -> usize
+    requires { ⌜ Room (now out) at (sentence (SessionLimits place)) ⌝ }
+    ensures { λ r. ⌜ Put (now (out .entry)) at (sentence (SessionLimits place)) (now (out .exit)) r ⌝ }
+{
+    text::put_numbered(
+        out,
+        at,
+        b"Clip ",
+        place,
+        b", counted from 0, has a number that cannot be right.\n",
+    )
+}
