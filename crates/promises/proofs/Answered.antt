@@ -17,6 +17,7 @@ use Rattle.drive.proofs.Shows.{check-within}
 use Rattle.cost.specs.Bound.{countMost}
 use Rattle.theory.specs.Counts.{roundTime, Good, Accepted}
 use Rattle.theory.specs.Rounds.{asked, next, Sustains, Fits, LeastTime}
+use Rattle.theory.specs.Reasons.{tenths}
 use Rattle.theory.specs.Shows.{loadOf}
 use Rattle.theory.proofs.Rounds.{round-grows, time-accepts, accepted-has-least, least-round, least-smallest}
 use Rattle.theory.proofs.Shows.{show-sound, feasible-few}
@@ -30,8 +31,14 @@ use Rattle.verdict.specs.Answers.{DecisionIs, accepted, no-set, outside, accept
 use Rattle.verdict.proofs.Once.{within-outside}
 use Rattle.run.specs.Decisions.{below?, some?, good?}
 use Rattle.run.specs.Opening.{openedBy}
-use Rattle.report.specs.Text.{refusedText, acceptedText}
-use Rattle.report.specs.Answers.{loadIn, TextIs, granted, eight, unread, textMost, ReportIs, told, short}
+use Rattle.text.specs.Lines.{refusedText}
+use Rattle.text.specs.Told.{ToldIs, told, short}
+use Rattle.report.specs.Text.{acceptedText}
+use Rattle.report.specs.Answers.{loadIn, TextIs, granted, eight, unread, textMost}
+use Rattle.reason.proofs.Once.{reason-given}
+use Rattle.explain.specs.Text.{reasonText, refusalText}
+use Rattle.explain.specs.Answers.{SaidIs, because, saidMost}
+use Rattle.explain.specs.Answers as saying
 use Rattle.promises.specs.Answered.{Answered}
 
 -- ---- verdicts
@@ -92,7 +99,16 @@ tried s m = from (showCheck s) refl
     from Within e = tried-within s (check-within s e) m
     from (Refused w) e = (untriedFor w, untried w e)
 
--- ---- reports
+-- ---- texts
+
+-- Where there is a text there is an answer, for every buffer.
+told-by :
+    (is : List ℕ → Type 0) (most : ℕ) (t : List ℕ) → is t → (b : List ℕ) → (r : Written) × ((x : List ℕ) × ToldIs is most b r x)
+told-by is most t h b = from (decLe most (length b))
+  where
+    from : Dec (most ≤ length b) → (r : Written) × ((x : List ℕ) × ToldIs is most b r x)
+    from (yes l) = (written Within (length t), (writtenOver Within t b, told t h l))
+    from (no l) = (written (Refused BufferShort) 0, (b, short (omega arith)))
 
 module _ (f : List ℕ) where
   text-by : readOf f .check ≡ Within → (d : Decision) → DecisionIs (readOf f .show) d → (t : List ℕ) × TextIs f t
@@ -107,12 +123,13 @@ module _ (f : List ℕ) where
       from Within e = let d = decided (readOf f .show) in text-by e (d .0) (d .1)
       from (Refused w) e = (refusedText w, unread w e)
 
-  report : (b : List ℕ) → (r : Written) × ((x : List ℕ) × ReportIs f b r x)
-  report b = from (decLe textMost (length b))
+  said : (t : List ℕ) × SaidIs f t
+  said = from (readOf f .check) refl
     where
-      from : Dec (textMost ≤ length b) → (r : Written) × ((x : List ℕ) × ReportIs f b r x)
-      from (yes l) = (written Within (length (text .0)), (writtenOver Within (text .0) b, told (text .0) (text .1) l))
-      from (no l) = (written (Refused BufferShort) 0, (b, short (omega arith)))
+      from : (k : Check) → readOf f .check ≡ k → (t : List ℕ) × SaidIs f t
+      from Within e =
+          let r = reason-given (readOf f .show) in (reasonText (r .0) (tenths (loadOf (readOf f .show))), because (r .0) e (r .1))
+      from (Refused w) e = (refusalText w, saying.unread w e)
 
 pub answered : Answered
 answered =
@@ -122,5 +139,7 @@ answered =
       opening = λ s.
           (let d = decided s in
           (openedBy s (d .0 .counts) (d .0 .verdict), record { decision = d .0; decides = d .1; answers = refl }));
-      reporting = report;
+      why = reason-given;
+      reporting = λ f. told-by (TextIs f) textMost (text f .0) (text f .1);
+      explaining = λ f. told-by (SaidIs f) saidMost (said f .0) (said f .1);
     }

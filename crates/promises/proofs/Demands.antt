@@ -3,8 +3,11 @@ use mathlib.Core.Path.{sym, _∙_}
 use Rattle.drive.proofs.Checks.{tells-once}
 use Rattle.verdict.proofs.Once.{decision-once, trial-once}
 use Rattle.run.proofs.Opening.{open-once}
+use Rattle.reason.proofs.Once.{reason-once}
 use Rattle.report.proofs.Texts.{text-once}
 use Rattle.report.proofs.Reports.{report-once}
+use Rattle.explain.proofs.Texts.{said-once}
+use Rattle.explain.proofs.Explained.{explain-once}
 use Rattle.promises.specs.Demands.{Demands}
 use Rattle.promises.proofs.Table.{table}
 use Rattle.promises.proofs.Trips.{trips}
@@ -12,6 +15,8 @@ use Rattle.promises.proofs.Verdict.{verdicts}
 use Rattle.promises.proofs.Lighter.{lighter-shows}
 use Rattle.promises.proofs.Spare.{spare}
 use Rattle.promises.proofs.Reports.{reports}
+use Rattle.promises.proofs.Reasons.{reasons}
+use Rattle.promises.proofs.Sayings.{sayings}
 use Rattle.promises.proofs.Runs.{hands-back, runs}
 use Rattle.promises.proofs.Says.{numbered}
 use Rattle.promises.proofs.Answered.{answered}
@@ -25,7 +30,7 @@ demands =
     record {
       first = record { answered = answered; numbered = numbered; order = order; runs = hands-back; buffers = buffers; empty = empty };
       second =
-          record { verdicts = verdicts; runs = runs; unseen = unseen; spare = spare-time; table = table; reports = reports; trips = trips };
+          record { verdicts = verdicts; runs = runs; unseen = unseen; spare = spare-time; table = table; reports = reports; reasons = reasons; sayings = sayings; trips = trips };
       third = record { lighter = lighter-shows; spare = spare };
       once =
           record {
@@ -36,5 +41,8 @@ demands =
             opening = open-once;
             report = report-once;
             text = text-once;
+            reason = reason-once;
+            explain = explain-once;
+            said = said-once;
           };
     }

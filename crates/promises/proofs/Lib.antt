@@ -8,6 +8,8 @@ pub mod Reports
 pub mod Runs
 pub mod Says
 pub mod Order
+pub mod Reasons
+pub mod Sayings
 pub mod Refusals
 pub mod Spare
 pub mod SpareTime

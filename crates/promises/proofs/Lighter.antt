@@ -9,7 +9,7 @@ use Rattle.theory.specs.Counts.{Load, Sound, Smallest}
 use Rattle.theory.specs.Lighter.{Lighter}
 use Rattle.theory.specs.Shows.{loadOf, Lightened, left-out, without, stoodAt}
 use Rattle.theory.proofs.Lighter.{lighter-accepted, lighter-counts, lighter-times, lighter-rounds}
-use Rattle.theory.proofs.Shows.{show-sound, lightened-lighter, left-out-within}
+use Rattle.theory.proofs.Shows.{show-sound, lightened-lighter, left-out-within, tenths-lighter}
 use Rattle.verdict.specs.declared.Decision.{Decision}
 use Rattle.verdict.specs.declared.Verdict.the-variants as verdict
 use Rattle.verdict.specs.Answers.{DecisionIs, acceptedWith}
@@ -54,4 +54,5 @@ lighter-shows =
           let n = w .counts .sessions in
           let held : b .playing ≤ length (b .sessions) = omega (arith, shaped .sessions) in
           lighter (without k b) b (stoodAt k) (left-out k h held) (left-out-within b k h held w) d f p q e);
+      load = tenths-lighter;
     }

@@ -1,6 +1,6 @@
 -- The numbers that each call says no with. Assumes nothing.
 use Prim.Native.Nat.{ℕ, _-_}
-use mathlib.Core.Path.{_≡_, sym, ap, _∙_}
+use mathlib.Core.Path.{_≡_, sym, ap, subst, _∙_}
 use mathlib.Core.Bool.{Bool}
 use mathlib.Core.List.{List, [], _∷_}
 use native.Mathlib.Decide.{decLe, decLt, ℕ-discrete}
@@ -14,6 +14,7 @@ use Rattle.drive.specs.declared.refusal.Refusal.the-variants as refusal
 use Rattle.drive.specs.declared.refusal.Check.{Check}
 use Rattle.drive.specs.declared.refusal.Check.the-variants.{Within, Refused}
 use Rattle.drive.specs.Decisions.{between?, counts?}
+use Rattle.drive.specs.Checks.{showCheck}
 use Rattle.drive.proofs.Checks.{within-refused}
 use Rattle.cost.specs.Worst.{worstOf}
 use Rattle.showfile.specs.declared.Written.{Written}
@@ -23,7 +24,14 @@ use Rattle.showfile.specs.Checks.{noteLength, distanced?, trailerCheck}
 use Rattle.showfile.specs.Answers.{reading, readCheck, readAt, readOf, shownAt}
 use Rattle.filing.specs.Answers.{writeCheck, writtenOf}
 use Rattle.trips.specs.Answers.{rereadOf, copyCheck, copiedOf}
-use Rattle.report.specs.Answers.{ReportIs, told, short}
+use Rattle.text.specs.Told.{ToldIs, told, short}
+use Rattle.report.specs.Answers.{TextIs, textMost}
+use Rattle.explain.specs.Answers.{SaidIs, saidMost}
+use Rattle.reason.specs.declared.Reason.{Reason}
+use Rattle.reason.specs.declared.Reason.the-variants as reason
+use Rattle.reason.specs.declared.Loaded.the-variants as loaded
+use Rattle.reason.specs.Answers.{ReasonIs, loadedOf}
+use Rattle.reason.specs.Answers as why
 use Rattle.verdict.specs.declared.Decision.{Decision}
 use Rattle.verdict.specs.declared.Trial.{Trial}
 use Rattle.verdict.specs.declared.Verdict.{Verdict}
@@ -57,7 +65,7 @@ use Rattle.theory.specs.Spare.{less?}
 use Rattle.promises.specs.Refusals.{Says, Order}
 use Rattle.promises.proofs.Says.{same-verdict, same-answer, holds-refused, fails-refused, same-choice}
 use Rattle.promises.proofs.Says.{has, one-more, same-refusal, refused-says, unless-says, first-says, limits-say, show-says}
-use Rattle.promises.proofs.Says.{worst-says, spared-says, reading-says, written-says, moved-says}
+use Rattle.promises.proofs.Says.{worst-says, loaded-says, spared-says, reading-says, written-says, moved-says}
 
 -- ---- files
 
@@ -94,9 +102,10 @@ copying-all f room =
     first-says l _ _ (λ w e. one-more (1 ∷ 2 ∷ 3 ∷ 4 ∷ 5 ∷ 6 ∷ 7 ∷ []) (16 ∷ []) _ (read-says f w e))
     (unless-says l (decLe (length f) room) refusal.BufferShort tt)
 
-report-says : (f b : List ℕ) (r : Written) (x : List ℕ) → ReportIs f b r x → Says Refused (r .check) (16 ∷ [])
-report-says f b r x (told t h g) = λ w e. within-refused e
-report-says f b r x (short h) = refused-says (16 ∷ []) refusal.BufferShort tt
+told-says :
+    (is : List ℕ → Type 0) (most : ℕ) (b : List ℕ) (r : Written) (x : List ℕ) → ToldIs is most b r x → Says Refused (r .check) (16 ∷ [])
+told-says is most b r x (told t h g) = λ w e. within-refused e
+told-says is most b r x (short h) = refused-says (16 ∷ []) refusal.BufferShort tt
 
 -- ---- verdicts
 
@@ -104,6 +113,16 @@ decide-says : (s : Show) (d : Decision) → DecisionIs s d → Says verdict.Refu
 decide-says s d (accepted m h g) = λ w e. accepted-refused (sym e)
 decide-says s d (no-set h none) = λ w e. refused-says (2 ∷ 5 ∷ 6 ∷ 7 ∷ 8 ∷ []) refusal.NoSet tt w (ap Refused (same-verdict e))
 decide-says s d (outside v out) = λ w e. show-says (2 ∷ 5 ∷ 6 ∷ 7 ∷ 8 ∷ []) s tt tt tt tt w (out ∙ ap Refused (same-verdict e))
+
+why-says : (s : Show) (r : Reason) → ReasonIs s r → Says reason.Refused r (2 ∷ 5 ∷ 6 ∷ 7 ∷ [])
+why-says s r h w e = show-says (2 ∷ 5 ∷ 6 ∷ 7 ∷ []) s tt tt tt tt w (refused-is s w (subst (ReasonIs s) e h))
+  where
+    refused-is : (s : Show) (w : Refusal) → ReasonIs s (reason.Refused w) → showCheck s ≡ Refused w
+    refused-is s w (why.outside v out) = out
+
+load-says : (s : Show) → Says loaded.Refused (loadedOf s) (2 ∷ 5 ∷ 6 ∷ 7 ∷ [])
+unfolding loadedOf
+load-says s = loaded-says (2 ∷ 5 ∷ 6 ∷ 7 ∷ []) (showCheck s) _ (show-says (2 ∷ 5 ∷ 6 ∷ 7 ∷ []) s tt tt tt tt)
 
 tried-says : (s : Show) (m : List ℕ) (t : Trial) → TrialIs s m t → Says answer.Refused (t .answer) (2 ∷ 5 ∷ 6 ∷ 7 ∷ [])
 tried-says s m t (holds h g) = λ w e. holds-refused e
@@ -225,8 +244,11 @@ order =
       writing = λ x note room. written-says (2 ∷ 4 ∷ 5 ∷ 6 ∷ 7 ∷ 16 ∷ []) _ _ (writing-all x note room);
       rereading = λ x note room. reading-says (2 ∷ 4 ∷ 5 ∷ 6 ∷ 7 ∷ 16 ∷ []) _ _ _ (writing-all x note room);
       copying = λ f room. written-says (1 ∷ 2 ∷ 3 ∷ 4 ∷ 5 ∷ 6 ∷ 7 ∷ 16 ∷ []) _ _ (copying-all f room);
-      reporting = report-says;
+      reporting = λ f. told-says (TextIs f) textMost;
+      explaining = λ f. told-says (SaidIs f) saidMost;
       deciding = decide-says;
+      why = why-says;
+      load = load-says;
       trying = tried-says;
       opening = open-says;
       pass = pass-says;

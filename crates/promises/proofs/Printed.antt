@@ -5,8 +5,8 @@ use native.Mathlib.Nat.{mod-lt}
 use native.Mathlib.Decide.{decLt}
 use native.Mathlib.Omega.{arith}
 use lib.Dec.{lit<}
-use Rattle.report.specs.Text.{decimal}
-use Rattle.report.proofs.Digits.{decimal-last, decimal-more}
+use Rattle.text.specs.Decimal.{decimal}
+use Rattle.text.proofs.Digits.{decimal-last, decimal-more}
 use Rattle.figures.specs.declared.Number.the-variants.{Is}
 use Rattle.figures.specs.Numbers.{numberOf}
 use Rattle.figures.proofs.Laws.{digit-is, number-one, number-more}

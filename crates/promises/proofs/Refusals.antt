@@ -2,6 +2,7 @@
 use Prim.Native.Nat.{ℕ, _-_}
 use mathlib.Core.Path.{_≡_, refl, sym, ap, _∙_}
 use mathlib.Core.List.{List}
+use native.Mathlib.Omega.{arith}
 use lib.ListN.{length, take, drop}
 use Rattle.drive.specs.declared.Show.{Show}
 use Rattle.drive.specs.declared.refusal.Refusal.{Refusal}
@@ -16,7 +17,10 @@ use Rattle.showfile.specs.Checks.{noteLength}
 use Rattle.showfile.specs.Answers.{reading, readCheck, readAt, readOf, shownAt, written, writtenOver}
 use Rattle.filing.specs.Answers.{writeCheck, writtenOf, bufferOf}
 use Rattle.trips.specs.Answers.{rereadOf, copyCheck, copiedOf, copyOf}
-use Rattle.report.specs.Answers.{ReportIs, told, short}
+use Rattle.text.specs.Told.{ToldIs, told, short}
+use Rattle.text.proofs.Puts.{no-room}
+use Rattle.report.specs.Answers.{TextIs, textMost}
+use Rattle.explain.specs.Answers.{SaidIs, saidMost}
 use Rattle.verdict.specs.declared.Decision.{Decision}
 use Rattle.verdict.specs.declared.Trial.{Trial}
 use Rattle.verdict.specs.declared.Verdict.the-variants as verdict
@@ -40,9 +44,11 @@ reading-check : (k : Check) (x : Show) (n : ℕ) → reading k x n .check ≡ k
 reading-check Within x n = refl
 reading-check (Refused v) x n = refl
 
-report-back : (f b : List ℕ) (r : Written) (x : List ℕ) → ReportIs f b r x → (w : Refusal) → r .check ≡ Refused w → x ≡ b
-report-back f b r x (told t h g) w e = within-refused e
-report-back f b r x (short h) w e = refl
+told-back :
+    (is : List ℕ → Type 0) (most : ℕ) (b : List ℕ) (r : Written) (x : List ℕ) → ToldIs is most b r x → (w : Refusal) →
+    r .check ≡ Refused w → x ≡ b
+told-back is most b r x (told t h g) w e = within-refused e
+told-back is most b r x (short h) w e = refl
 
 pub buffers : Buffers
 unfolding writtenOf bufferOf rereadOf copiedOf copyOf
@@ -57,7 +63,9 @@ buffers =
       copying = λ f b w e.
           (let k = copyCheck f (length b) in
           over-refused k f b w (sym (written-check k (length f)) ∙ e));
-      reporting = report-back;
+      reporting = λ f. told-back (TextIs f) textMost;
+      explaining = λ f. told-back (SaidIs f) saidMost;
+      putting = λ b at t h. (let n = no-room b at t (λ l. omega arith) in (sym (n .0), sym (n .1)));
     }
 
 -- ---- answers
@@ -77,9 +85,11 @@ written-empty : (k : Check) (n : ℕ) (w : Refusal) → written k n .check ≡ R
 written-empty Within n w e = within-refused e
 written-empty (Refused v) n w e = refl
 
-report-empty : (f b : List ℕ) (r : Written) (x : List ℕ) → ReportIs f b r x → (w : Refusal) → r .check ≡ Refused w → r .len ≡ 0
-report-empty f b r x (told t h g) w e = within-refused e
-report-empty f b r x (short h) w e = refl
+told-empty :
+    (is : List ℕ → Type 0) (most : ℕ) (b : List ℕ) (r : Written) (x : List ℕ) → ToldIs is most b r x → (w : Refusal) →
+    r .check ≡ Refused w → r .len ≡ 0
+told-empty is most b r x (told t h g) w e = within-refused e
+told-empty is most b r x (short h) w e = refl
 
 decide-empty : (s : Show) (d : Decision) → DecisionIs s d → (w : Refusal) → d .verdict ≡ verdict.Refused w → d ≡ refusedFor w
 decide-empty s d (accepted m h g) w e = accepted-refused (sym e)
@@ -105,7 +115,8 @@ empty =
       writing = λ x note room. written-empty (writeCheck x note room) (length (fileOf x note));
       rereading = λ x note room. reading-empty (writeCheck x note room) (zeroed x) (length note);
       copying = λ f room. written-empty (copyCheck f room) (length f);
-      reporting = report-empty;
+      reporting = λ f. told-empty (TextIs f) textMost;
+      explaining = λ f. told-empty (SaidIs f) saidMost;
       deciding = decide-empty;
       trying = tried-empty;
       opening = open-empty;

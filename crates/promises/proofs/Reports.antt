@@ -27,9 +27,11 @@ use Rattle.verdict.specs.declared.Decision.{Decision}
 use Rattle.verdict.specs.declared.Verdict.the-variants as verdict
 use Rattle.verdict.specs.Answers.{DecisionIs, setOf}
 use Rattle.verdict.proofs.Unused.{alike-decision}
-use Rattle.report.specs.Text.{digits, decimal, refusedText, sessionLines, acceptedText}
+use Rattle.text.specs.Decimal.{digits, decimal}
+use Rattle.text.specs.Lines.{refusedText}
+use Rattle.text.proofs.Numerals.{decimal-numeral}
+use Rattle.report.specs.Text.{sessionLines, acceptedText}
 use Rattle.report.specs.Answers.{TextIs}
-use Rattle.report.proofs.Numerals.{decimal-numeral}
 use Rattle.report.proofs.Texts.{told-yes, told-no}
 use Rattle.report.proofs.Sizes.{text-most}
 use Rattle.promises.specs.Numbers.{X, Z, clip, showOf}

@@ -13,9 +13,8 @@ use Rattle.drive.specs.declared.refusal.Check.the-variants.{Within, Refused}
 use Rattle.theory.specs.Counts.{Smallest}
 use Rattle.theory.specs.Shows.{loadOf}
 use Rattle.theory.specs.Spare.{slackBy}
-use Rattle.theory.proofs.Rounds.{smallest-same}
 use Rattle.verdict.specs.Answers.{setOf}
-use Rattle.verdict.proofs.Sets.{set-of-row}
+use Rattle.verdict.proofs.Sets.{row-smallest}
 use Rattle.run.specs.declared.State.{State}
 use Rattle.run.specs.declared.Run.{Run}
 use Rattle.run.specs.declared.Opened.{Opened}
@@ -107,7 +106,7 @@ unfolding firstRun
 opened-smallest s o h e =
     let b = opened-begins s o h e in
     subst (λ (r : Run). Smallest (loadOf s) (setOf (r .counts))) (sym (b .first))
-    (smallest-same (loadOf s) (b .set) _ (λ i l. sym (set-of-row (loadOf s) (b .set) i l)) (b .smallest))
+    (row-smallest (loadOf s) (b .set) (b .smallest))
 
 -- What every run of a show has.
 pub record Has (s : Show) (r : Run) : Type 0 where

@@ -42,6 +42,8 @@ use Rattle.drive.proofs.Checks.{within-refused}
 use Rattle.cost.specs.declared.Worst.the-variants as worst
 use Rattle.cost.specs.Worst.{answered}
 use Rattle.showfile.specs.Answers.{reading, written}
+use Rattle.reason.specs.declared.Loaded.the-variants as loaded
+use Rattle.reason.specs.Answers as loading
 use Rattle.verdict.specs.declared.Verdict.the-variants as verdict
 use Rattle.verdict.specs.declared.Answer.the-variants as answer
 use Rattle.run.specs.declared.Run.{Run}
@@ -180,6 +182,13 @@ module _ (l : List ℕ) where
       clash : {X : Type 0} {w : Refusal} → worst.Takes t ≡ worst.Refused w → X
       clash e = let z : _≡_ {A = ℕ} 0 1 = cc in absurd (let f : ⊥ = omega arith in f)
   worst-says (Refused v) t h = λ w e. h w (let f : v ≡ w = cc in ap Refused f)
+
+  pub loaded-says : (k : Check) (t : ℕ) → Says Refused k l → Says loaded.Refused (loading.answered k t) l
+  loaded-says Within t h = λ w e. clash e
+    where
+      clash : {X : Type 0} {w : Refusal} → loaded.Tenths t ≡ loaded.Refused w → X
+      clash e = let z : _≡_ {A = ℕ} 0 1 = cc in absurd (let f : ⊥ = omega arith in f)
+  loaded-says (Refused v) t h = λ w e. h w (let f : v ≡ w = cc in ap Refused f)
 
   pub spared-says : (k : Check) (z : ℤ) (r : Run) → Says Refused k l → Says spare.Refused (spared k z r .spare) l
   spared-says Within z r h = λ w e. clash e

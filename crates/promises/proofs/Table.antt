@@ -34,7 +34,7 @@ use Rattle.promises.specs.Numbers.{Table, X, Z, far, buffered, clip, slo
 
 -- ---- tests that compute
 
-unfoldable both : Bool → Bool → Bool
+unfoldable pub both : Bool → Bool → Bool
 both true b = b
 both false b = false
 
@@ -44,7 +44,7 @@ both-yes true b t = (tt, t)
 both-yes false b t = absurd t
 
 -- the test passes at each number below n
-unfoldable all : (ℕ → Bool) → ℕ → Bool
+unfoldable pub all : (ℕ → Bool) → ℕ → Bool
 all f zero = true
 all f (suc n) = both (f n) (all f n)
 
@@ -64,7 +64,7 @@ module _ (s : Show) (e : showCheck s ≡ Within) (k x : ℕ) (turned : turns (lo
       subst (NotPast (loadOf s)) turned (turns-below (loadOf s) sound k 0 (start-below (loadOf s) sound))
 
   -- After k turns the round takes x, which is no longer, and what it asks for fits.
-  settles :
+  pub settles :
       T (leb (next (loadOf s) x) x) → T (all (λ i. leb (needed (loadOf s) i (asked (loadOf s) x i)) (loadOf s .stream i .buffer)) (s .playing)) →
       DecisionIs s (acceptedWith (loadOf s) (asked (loadOf s) x))
   settles still fits =

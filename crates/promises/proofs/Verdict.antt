@@ -4,9 +4,9 @@ use mathlib.Core.Path.{_≡_, sym, _∙_, ap, subst}
 use Rattle.drive.specs.declared.Show.{Show}
 use Rattle.theory.specs.Counts.{Smallest}
 use Rattle.theory.specs.Shows.{loadOf}
-use Rattle.theory.proofs.Rounds.{smallest-same, round-same}
+use Rattle.theory.proofs.Rounds.{round-same}
 use Rattle.verdict.specs.Answers.{acceptedWith, setOf}
-use Rattle.verdict.proofs.Sets.{set-of-row}
+use Rattle.verdict.proofs.Sets.{set-of-row, row-smallest}
 use Rattle.verdict.proofs.Decisions.{accepted-set, accepted-exactly}
 use Rattle.verdict.proofs.Unused.{alike-decision, alike-trial}
 use Rattle.promises.specs.Verdict.{SmallestSet, Verdicts}
@@ -16,7 +16,7 @@ told-of : (s : Show) (m : ℕ → ℕ) → Smallest (loadOf s) m → SmallestSet
 told-of s m h =
     let l = loadOf s in
     let same : (i : ℕ) → i < l .playing → m i ≡ setOf (acceptedWith l m .counts) i = (λ i b. sym (set-of-row l m i b)) in
-    let x = smallest-same l m (setOf (acceptedWith l m .counts)) same h in
+    let x = row-smallest l m h in
     record {
       good = x .good;
       least = x .least;

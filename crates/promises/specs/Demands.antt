@@ -12,12 +12,17 @@ use Rattle.verdict.specs.declared.Trial.{Trial}
 use Rattle.verdict.specs.Answers.{DecisionIs, TrialIs}
 use Rattle.run.specs.declared.Opened.{Opened}
 use Rattle.run.specs.Opening.{OpenIs}
+use Rattle.reason.specs.declared.Reason.{Reason}
+use Rattle.reason.specs.Answers.{ReasonIs}
 use Rattle.report.specs.Answers.{TextIs, ReportIs}
+use Rattle.explain.specs.Answers.{SaidIs, ExplainIs}
 use Rattle.promises.specs.Numbers.{Table}
 use Rattle.promises.specs.Files.{Trips}
 use Rattle.promises.specs.Verdict.{Verdicts}
 use Rattle.promises.specs.Lighter.{Lighter, Spare}
 use Rattle.promises.specs.Reports.{Reports}
+use Rattle.promises.specs.Reasons.{Reasons}
+use Rattle.promises.specs.Sayings.{Sayings}
 use Rattle.promises.specs.Runs.{HandsBack, Runs}
 use Rattle.promises.specs.Answered.{Answered}
 use Rattle.promises.specs.Refusals.{Numbered, Order, Buffers, Empty}
@@ -53,12 +58,15 @@ pub record Second : Type 0 where
   pub spare : SpareTime
   pub table : Table
   pub reports : Reports
+  -- (and with an 8 comes its reason, in a word and in a sentence)
+  pub reasons : Reasons
+  pub sayings : Sayings
   -- a show written and read again is the same show.
   pub trips : Trips
 
 -- Demand 3.
 pub record Third : Type 0 where
-  -- Make an accepted show lighter and nothing gets worse: accepted again, no count, time or round larger, ..
+  -- Make an accepted show lighter and nothing gets worse: accepted again, no count, time, round or load larger, ..
   pub lighter : Lighter
   -- .. and where no session is behind its cushion, no workahead and not the slack smaller.
   pub spare : Spare
@@ -66,20 +74,23 @@ pub record Third : Type 0 where
 -- Two results that satisfy one statement are equal, for every public call.
 pub record Once : Type 1 where
   -- The statement is an equation, of what is answered and of every byte or state that is lent: `Show::nothing`, `Show::check`,
-  -- `Refusal::told`, `Cost::time`, `costs_of`, `worst_time`, `read`, `note`, `write`, `reread`, `copy`, `Run::with_cycle`, `test_run`,
+  -- `Refusal::told`, `Cost::time`, `costs_of`, `worst_time`, `load`, `read`, `note`, `write`, `reread`, `copy`, `Run::with_cycle`, `test_run`,
   -- `pass`, `take`, `finish`, `choose`, `workahead`, `slack`, `start`, the player's `take_from`, `take` and `take_lent`; and, of texts, `find`,
-  -- `parts`, `part`, `decimal`, `unhex`.
+  -- `parts`, `part`, `decimal`, `unhex`, `put_word`, `put_numbered`.
   pub equation : {A : Type 0} (meaning x y : A) → x ≡ meaning → y ≡ meaning → x ≡ y
   -- It tells of a limit, of room, or of two texts: `Drive::within`, `Layout::within`, `Session::within`, `Show::counts_within`, `State::within`,
   -- `State::room`, `same`.
   pub test : (p : Type 0) (a b : Bool) → Tells a p → Tells b p → a ≡ b
-  -- `decide`, `tried`, `open`
+  -- `decide`, `tried`, `open`, `why`
   pub decision : (s : Show) (d e : Decision) → DecisionIs s d → DecisionIs s e → d ≡ e
   pub trial : (s : Show) (m : List ℕ) (a b : Trial) → TrialIs s m a → TrialIs s m b → a ≡ b
   pub opening : (s : Show) (a b : Opened) → OpenIs s a → OpenIs s b → a ≡ b
-  -- `report`, in what it answers and in every byte; and the text that it puts
+  pub reason : (s : Show) (p q : Reason) → ReasonIs s p → ReasonIs s q → p ≡ q
+  -- `report` and `explain`, in what they answer and in every byte; and the texts that they put
   pub report : (f b : List ℕ) (r s : Written) (x y : List ℕ) → ReportIs f b r x → ReportIs f b s y → (r ≡ s) × (x ≡ y)
   pub text : (f t u : List ℕ) → TextIs f t → TextIs f u → t ≡ u
+  pub explain : (f b : List ℕ) (r s : Written) (x y : List ℕ) → ExplainIs f b r x → ExplainIs f b s y → (r ≡ s) × (x ≡ y)
+  pub said : (f t u : List ℕ) → SaidIs f t → SaidIs f u → t ≡ u
 
 pub record Demands : Type 1 where
   pub first : First

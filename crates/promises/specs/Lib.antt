@@ -5,6 +5,8 @@ pub mod Lighter
 pub mod Reports
 pub mod Runs
 pub mod Refusals
+pub mod Reasons
+pub mod Sayings
 pub mod SpareTime
 pub mod Answered
 pub mod Unseen

@@ -6,6 +6,7 @@ use lib.Signed.{_≤ℤ_, _<ℤ_}
 use Rattle.drive.specs.declared.Show.{Show}
 use Rattle.drive.specs.Limits.{ShowWithin}
 use Rattle.theory.specs.Counts.{Smallest}
+use Rattle.theory.specs.Reasons.{tenths}
 use Rattle.theory.specs.Shows.{loadOf, Lightened, without, stoodAt}
 use Rattle.verdict.specs.declared.Decision.{Decision}
 use Rattle.verdict.specs.declared.Verdict.the-variants as verdict
@@ -34,6 +35,8 @@ pub record Lighter : Type 0 where
   pub fewer :
       (b : Show) (k : ℕ) → Shaped b → k < b .playing → (d f : Decision) → DecisionIs (without k b) d → DecisionIs b f →
       f .verdict ≡ verdict.Accepted → NoWorse (without k b .playing) (stoodAt k) d f
+  -- The drive has no more to do, in tenths of a per cent.
+  pub load : (a b : Show) (e : ℕ → ℕ) → Lightened a b e → tenths (loadOf a) ≤ tenths (loadOf b)
 
 -- ---- spare time
 

@@ -1,5 +1,5 @@
 -- Demand 1, what is said no with and what is left after it: docs/RULES.md, section 4. proofs/Refusals.antt proves it.
-use Prim.Native.Nat.{ℕ}
+use Prim.Native.Nat.{ℕ, _+_, _<_}
 use mathlib.Core.Path.{_≡_}
 use mathlib.Core.Bool.{Bool}
 use mathlib.Core.List.{List, [], _∷_}
@@ -18,7 +18,13 @@ use Rattle.showfile.specs.declared.Written.{Written}
 use Rattle.showfile.specs.Answers.{readOf, noteOf}
 use Rattle.filing.specs.Answers.{writtenOf, bufferOf}
 use Rattle.trips.specs.Answers.{rereadOf, copiedOf, copyOf}
+use Rattle.text.specs.Puts.{putOver, putTo}
 use Rattle.report.specs.Answers.{ReportIs}
+use Rattle.explain.specs.Answers.{ExplainIs}
+use Rattle.reason.specs.declared.Reason.{Reason}
+use Rattle.reason.specs.declared.Reason.the-variants as reason
+use Rattle.reason.specs.declared.Loaded.the-variants as loaded
+use Rattle.reason.specs.Answers.{ReasonIs, loadedOf}
 use Rattle.verdict.specs.declared.Decision.{Decision}
 use Rattle.verdict.specs.declared.Trial.{Trial}
 use Rattle.verdict.specs.declared.Verdict.the-variants as verdict
@@ -60,7 +66,10 @@ pub record Order : Type 0 where
   pub rereading : (x : Show) (note : List ℕ) (room : ℕ) → Says Refused (rereadOf x note room .check) (2 ∷ 4 ∷ 5 ∷ 6 ∷ 7 ∷ 16 ∷ [])
   pub copying : (f : List ℕ) (room : ℕ) → Says Refused (copiedOf f room .check) (1 ∷ 2 ∷ 3 ∷ 4 ∷ 5 ∷ 6 ∷ 7 ∷ 16 ∷ [])
   pub reporting : (f b : List ℕ) (r : Written) (x : List ℕ) → ReportIs f b r x → Says Refused (r .check) (16 ∷ [])
+  pub explaining : (f b : List ℕ) (r : Written) (x : List ℕ) → ExplainIs f b r x → Says Refused (r .check) (16 ∷ [])
   pub deciding : (s : Show) (d : Decision) → DecisionIs s d → Says verdict.Refused (d .verdict) (2 ∷ 5 ∷ 6 ∷ 7 ∷ 8 ∷ [])
+  pub why : (s : Show) (r : Reason) → ReasonIs s r → Says reason.Refused r (2 ∷ 5 ∷ 6 ∷ 7 ∷ [])
+  pub load : (s : Show) → Says loaded.Refused (loadedOf s) (2 ∷ 5 ∷ 6 ∷ 7 ∷ [])
   pub trying : (s : Show) (m : List ℕ) (t : Trial) → TrialIs s m t → Says answer.Refused (t .answer) (2 ∷ 5 ∷ 6 ∷ 7 ∷ [])
   pub opening : (s : Show) (o : Opened) → OpenIs s o → Says Refused (o .check) (2 ∷ 5 ∷ 6 ∷ 7 ∷ 8 ∷ [])
   pub pass : (r : Run) (d : ℕ) → Says Refused (passOf r d .check) (19 ∷ 11 ∷ [])
@@ -78,6 +87,9 @@ pub record Buffers : Type 0 where
   pub rereading : (x : Show) (note b : List ℕ) (w : Refusal) → rereadOf x note (length b) .check ≡ Refused w → bufferOf x note b ≡ b
   pub copying : (f b : List ℕ) (w : Refusal) → copiedOf f (length b) .check ≡ Refused w → copyOf f b ≡ b
   pub reporting : (f b : List ℕ) (r : Written) (x : List ℕ) → ReportIs f b r x → (w : Refusal) → r .check ≡ Refused w → x ≡ b
+  pub explaining : (f b : List ℕ) (r : Written) (x : List ℕ) → ExplainIs f b r x → (w : Refusal) → r .check ≡ Refused w → x ≡ b
+  -- a text that does not fit is not put, and the place that was given is answered
+  pub putting : (b : List ℕ) (at : ℕ) (t : List ℕ) → length b < at + length t → (putOver b at t ≡ b) × (putTo b at t ≡ at)
 
 -- Refused, all beside number and place is zero or empty; a writer has written no byte.
 pub record Empty : Type 0 where
@@ -89,6 +101,7 @@ pub record Empty : Type 0 where
       rereadOf x note room ≡ record { check = Refused w; show = noShow; note = 0 }
   pub copying : (f : List ℕ) (room : ℕ) (w : Refusal) → copiedOf f room .check ≡ Refused w → copiedOf f room .len ≡ 0
   pub reporting : (f b : List ℕ) (r : Written) (x : List ℕ) → ReportIs f b r x → (w : Refusal) → r .check ≡ Refused w → r .len ≡ 0
+  pub explaining : (f b : List ℕ) (r : Written) (x : List ℕ) → ExplainIs f b r x → (w : Refusal) → r .check ≡ Refused w → r .len ≡ 0
   pub deciding : (s : Show) (d : Decision) → DecisionIs s d → (w : Refusal) → d .verdict ≡ verdict.Refused w → d ≡ refusedFor w
   pub trying : (s : Show) (m : List ℕ) (t : Trial) → TrialIs s m t → (w : Refusal) → t .answer ≡ answer.Refused w → t ≡ untriedFor w
   pub opening : (s : Show) (o : Opened) → OpenIs s o → (w : Refusal) → o .check ≡ Refused w → o ≡ record { check = Refused w; run = noRun }

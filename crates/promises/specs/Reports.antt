@@ -4,9 +4,9 @@ use mathlib.Core.Path.{_≡_}
 use mathlib.Core.List.{List, []}
 use lib.ListN.{length, replicate}
 use Rattle.showfile.specs.File.{fileOf}
-use Rattle.report.specs.Ascii.{ascii}
-use Rattle.report.specs.Text.{decimal}
-use Rattle.report.specs.Numerals.{Numeral}
+use Rattle.text.specs.Ascii.{ascii}
+use Rattle.text.specs.Decimal.{decimal}
+use Rattle.text.specs.Numerals.{Numeral}
 use Rattle.report.specs.Answers.{TextIs, textMost}
 use Rattle.figures.specs.declared.Number.the-variants.{Is}
 use Rattle.figures.specs.Numbers.{numberOf}
