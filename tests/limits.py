@@ -2,6 +2,7 @@
 nothing with the proved code."""
 
 LAYOUTS, SESSIONS = 8, 16
+WIDEST = 2**30    # the largest buffer
 
 def within(value, least, most):
     return least <= value <= most
@@ -13,7 +14,7 @@ def layout_ok(longest, track, time, rotation):
     return within(longest, 0, 10**6) and within(track, 0, longest) and within(time, 1, 10**6) and within(rotation, 0, 10**6)
 
 def session_ok(laid, rate, cushion, buffer, layout):
-    return within(rate, 1, 10**8) and within(cushion, 1, 2**24) and within(buffer, 1, 2**30) and layout < laid
+    return within(rate, 1, 10**8) and within(cushion, 1, 2**24) and within(buffer, 1, WIDEST) and layout < laid
 
 def counts_ok(laid, playing):
     return within(laid, 1, LAYOUTS) and playing <= SESSIONS

@@ -5,13 +5,16 @@
 
 What must come of them tests/report_answers.py says.
 """
-import sys
+import itertools, sys
+import why_cases
+from dice import Dice
+from limits import WIDEST
+from made_shows import X, Z, alike, buffered, changed
+from sets import needed, smallest
 from show_answers import encode, table, unhexed
 from show_cases import BAD_LAYOUT, BAD_SESSION, Made, noted
-from verdict_cases import X, Z, alike, changed
 
 UNIT = 512 * 10**6    # of blocks of 512 bytes: what a count is multiplied with, where it is compared with R x L
-MOST = 2**30          # the largest buffer
 
 def put(data):
     sys.stdout.buffer.write(len(data).to_bytes(2, 'little') + data)
@@ -77,7 +80,7 @@ def counted(count, cushion, buffer):
 
 def counts():
     for _, count in sides(1, 6):
-        put_show(*counted(count, 1, MOST))
+        put_show(*counted(count, 1, WIDEST))
 
 def buffers():
     """The smallest buffer is the one that there is; and it is a byte more."""
@@ -90,10 +93,10 @@ def buffers():
 def short_times():
     """U and L of one session; L of sixteen."""
     for _, time in sides(1, 6):
-        put_show((512, 10), [(time // 2, 0, time - time // 2, 0)], [(1, 1, MOST, 0)])
+        put_show((512, 10), [(time // 2, 0, time - time // 2, 0)], [(1, 1, WIDEST, 0)])
     for _, time in sides(2, 7):
         part = time // 16
-        put_show((512, 10), [(0, 0, part, 0), (0, 0, time - 15 * part, 0)], [(1, 1, MOST, 0)] * 15 + [(1, 1, MOST, 1)])
+        put_show((512, 10), [(0, 0, part, 0), (0, 0, time - 15 * part, 0)], [(1, 1, WIDEST, 0)] * 15 + [(1, 1, WIDEST, 1)])
 
 def timed(k, time):
     """A session that takes this time, for a count that the others' fixed times call for: as long as they can be, so that the count is just not larger."""
@@ -102,7 +105,7 @@ def timed(k, time):
     once = time - count * block
     others = (count * (UNIT - rate * block) - 1) // rate - once
     rest = others // 15 - ((time + others) // UNIT + 1)
-    return (512, 10), [layout(once, block), layout(rest, 1)], [(rate, 1, MOST, 0)] + [(1, 1, MOST, 1)] * 15
+    return (512, 10), [layout(once, block), layout(rest, 1)], [(rate, 1, WIDEST, 0)] + [(1, 1, WIDEST, 1)] * 15
 
 def times():
     for k, time in sides(7, 12):
@@ -114,20 +117,59 @@ def rounds():
         scale, count = 10**max(0, 10 - k), 625 * 10**max(0, k - 10)
         spare = min(4000, 2_500_000 // count)
         block, once = 10**6 // scale - spare, spare * count
-        put_show((512, 10), [layout(once, block), layout(once - less, block)], [(32 * scale, 1, MOST, 0)] * 15 + [(32 * scale, 1, MOST, 1)])
+        put_show((512, 10), [layout(once, block), layout(once - less, block)], [(32 * scale, 1, WIDEST, 0)] * 15 + [(32 * scale, 1, WIDEST, 1)])
+
+# ---- why
+
+def shorts():
+    """The buffer that is needed has each number of digits; and each clip is the one that is short of it."""
+    for _, size in sides(4, 9):
+        count = size // 512 - 2
+        put_show(*counted(count, size - 512 * (count + 1), max(1, size // 2)))
+    for show in (counted(1, 1, 1), counted(1, 511, 1024), *why_cases.most()):
+        put_show(*show)
+    for show in why_cases.mixed():
+        sizes = needed(show, smallest(show))
+        for i in range(16):
+            put_show(*buffered(show, changed(sizes, i, sizes[i] - 1)), noted(i))
+            put_show(*buffered(show, sizes[:i] + [1] * (16 - i)))
+            put_show(*buffered(show, sizes[:i] + [sizes[i] - 1] + [1] * (15 - i)))
+
+def beyonds():
+    for show in itertools.islice(why_cases.beyond(), 0, None, 7):
+        put_show(*show)
+    for rate in (511_900, 511_999, 512_000, 512_001, 513_536, 527_360):
+        drive, layouts, sessions = alike(Z, 10, 158_310_401)
+        put_show(drive, layouts, changed(sessions, 9, (rate, *sessions[9][1:])))
+
+def loads():
+    """The load on each side of each power of ten, from 0.0 to 625,000,000.0 per cent; of one clip, and of sixteen."""
+    drive, dice = (512, 1), Dice(5)
+    for _, tenth in [*sides(0, 9), (0, 5), (0, 15), (0, 105), (0, 990), (0, 1001), (0, 1003), (0, 1009), (0, 1010), (0, 2**32 - 1), (0, 2**32), (0, 5 * 10**9)]:
+        for count, off in ((1, 0), (2, -1), (16, 0), (16, -1)):
+            total = 512_000 * tenth + off
+            show = total >= count and why_cases.summing(dice, drive, count, total)
+            if show:
+                put_show(*show)
+    for show in itertools.islice(why_cases.wide_sums(dice), 0, None, 3):
+        if show:
+            put_show(*show)
+    for cylinder, count, rate in itertools.product((1, 65_536), (1, 16), (1, 10**8 - 1, 10**8)):
+        put_show((512, cylinder), [(10**6,) * 4], [(rate, 2**24, WIDEST, 0)] * count)
+        put_show((65_536, cylinder), [(0, 0, 1, 0)], [(rate, 1, WIDEST, 0)] * count)
 
 # ---- large
 
 def longest():
     """593 bytes of text, after 673,335 turns: counts of seven digits, times of thirteen, a round of fourteen, buffers of ten."""
-    put_show((1024, 1), [(720_000, 66_664, 10**6, 10**6)], [(60, 2**24, MOST, 0)] * 16)
+    put_show((1024, 1), [(720_000, 66_664, 10**6, 10**6)], [(60, 2**24, WIDEST, 0)] * 16)
 
 def heavy():
     """3,056,065 turns: the load is one part in 512,000,000 under a hundred per cent, and a turn brings one block more to one of two sessions."""
-    put_show((512, 10), [layout(2500, 835_355), layout(2500, 835_123)], [(300, 1, MOST, 0), (313, 1, MOST, 1)])
+    put_show((512, 10), [layout(2500, 835_355), layout(2500, 835_123)], [(300, 1, WIDEST, 0), (313, 1, WIDEST, 1)])
 
 def main():
-    for part in (stored, lengths, playing, refusals, counts, buffers, short_times, times, rounds, longest, heavy):
+    for part in (stored, lengths, playing, refusals, counts, buffers, short_times, times, rounds, shorts, beyonds, loads, longest, heavy):
         part()
     sys.stdout.buffer.write(b'\x14\0' + bytes(19))    # cut short
 

@@ -9,6 +9,7 @@ import itertools, sys
 import script_cases
 from dice import Dice
 from limits import SESSIONS
+from made_shows import X, Z, alike, changed
 from run_answers import stored
 from run_damage import DAMAGE
 from run_rules import MICRO, PUT_MOST, SPAN_MOST
@@ -17,7 +18,6 @@ from run_scripts import (
 from run_spare import SPARE
 from show_answers import encode
 from show_cases import BAD_LAYOUT, BAD_SESSION, PAST, Made, noted
-from verdict_cases import X, Z, alike, changed
 
 # ---- opening
 

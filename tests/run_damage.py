@@ -2,13 +2,13 @@
 import itertools
 from dice import Dice
 from limits import LAYOUTS, SESSIONS
+from made_shows import X, Z
 from run_answers import HEAD, ROWS
 from run_rules import MICRO, PUT_MOST, SPAN_MOST
 from run_scripts import (
     DICE, FAR, THREE, TURNS, ask, at_limit, bad_four, buffer_of, filled, four, held, largest, light, load, playing, poke, pokes, put, run, show_of, some_call,
     state, three, tight, tried)
 from show_cases import PAST
-from verdict_cases import X, Z
 
 OF_RUN = (*ROWS['states'], 'O')
 OF_SESSIONS = (*OF_RUN, *ROWS['sessions'])

@@ -2,8 +2,8 @@
 code."""
 import copy, itertools
 from limits import LAYOUTS, SESSIONS, counts_ok, fault, within
+from sets import holds, smallest, times
 from show_answers import NONE, Refused
-from verdict_answers import holds, smallest, times
 
 PUT_MOST, SPAN_MOST, MICRO = 2**40, 10**9, 10**6
 COUNT, P, G, C = range(4)

@@ -3,11 +3,11 @@ follow each line, so that the next one can go by the run."""
 import itertools
 from dice import Dice
 from limits import LAYOUTS, SESSIONS
+from made_shows import X, alike, buffered
 from run_answers import LISTED, Desk
 from run_rules import G, P, PUT_MOST, SPAN_MOST
+from sets import needed, smallest
 from show_answers import encode, hexed
-from verdict_answers import needed, smallest
-from verdict_cases import X, alike, buffered
 
 FAR = 2**64 - 1
 DICE = Dice(1991)

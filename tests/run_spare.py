@@ -2,11 +2,11 @@
 import itertools
 from dice import Dice
 from limits import SESSIONS
+from made_shows import X, Z, alike
 from run_rules import MICRO, PUT_MOST
 from run_scripts import DICE, FAR, ask, asks, drain, held, light, load, playing, poke, pokes, put, run, show_of, three, tight
+from sets import times
 from show_cases import PAST
-from verdict_answers import times
-from verdict_cases import X, Z, alike
 
 # ---- what is asked, and what is changed for it
 

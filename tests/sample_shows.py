@@ -5,15 +5,20 @@
   tests/sample_shows.py --check     says whether the files there are what this writes
 """
 import pathlib, sys
+from made_shows import X, Z, alike, changed
 from show_answers import encode, end_check
-from verdict_cases import X, Z, alike, changed
 
 FOLDER = pathlib.Path(__file__).parent.parent / 'shows'
 
-def almost_full():
-    """Ten on Z, the tenth at a rate that leaves one part in a thousand of the drive."""
+def ten(rate):
+    """Ten on Z, the tenth at this rate. 506,880 leaves one part in a thousand of the drive, 511,999 one byte a second; 527,360 is three parts in a thousand too much."""
     drive, layouts, sessions = alike(Z, 10)
-    return drive, layouts, changed(sessions, 9, (506_880, *sessions[9][1:]))
+    return drive, layouts, changed(sessions, 9, (rate, *sessions[9][1:]))
+
+def short(*places):
+    """p3, with the buffers of these clips a byte short."""
+    drive, layouts, sessions = alike(X, 3)
+    return drive, layouts, [(x[0], x[1], 153_600 if i in places else x[2], x[3]) for i, x in enumerate(sessions)]
 
 # Blocks of 64 KiB, 64 to a cylinder; 7,200 turns a minute. The outer tracks of a drive are the quick ones.
 OUTER, MIDDLE, INNER = (18_000, 1_200, 546, 8_333), (18_000, 1_200, 728, 8_333), (18_000, 1_200, 1_092, 8_333)
@@ -33,7 +38,8 @@ def evening():
     return '\n'.join(['case evening', 'show ' + show.hex(), 'open', *loads, *plays, 'end', '']).encode()
 
 def files():
-    return {'p3.show': encode(alike(X, 3), b''), 'p6.show': encode(alike(Z, 10), b''), 'p7.show': encode(almost_full(), b''),
+    return {'p3.show': encode(alike(X, 3), b''), 'p6.show': encode(alike(Z, 10), b''), 'p7.show': encode(ten(506_880), b''),
+            'over.show': encode(ten(527_360), b''), 'beyond.show': encode(ten(511_999), b''), 'buffer.show': encode(short(1), b''), 'buffers.show': encode(short(1, 2), b''),
             'wall.show': encode(wall(), WALL_NOTE), 'empty.show': encode(alike(X, 0), b''), 'evening.script': evening()}
 
 def main():

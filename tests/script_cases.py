@@ -1,11 +1,11 @@
 """Lines that are no lines of a script, and lines at the border of it: cases for tests/run_cases.py. A character is a byte."""
 import itertools
 from limits import LAYOUTS, SESSIONS
+from made_shows import X, alike
 from run_answers import LINE_MOST
 from run_scripts import light
 from show_answers import encode
 from show_cases import Made, noted
-from verdict_cases import X, alike
 
 PAIR = encode(alike(X, 2), b'').hex()
 OPENED = 'show ' + PAIR, 'open'

@@ -1,48 +1,19 @@
 #!/usr/bin/env python3
 """Writes what the program `verdicts` must write for the records on standard input, from docs/RULES.md alone: it shares nothing with the proved code,
-which goes by the time of a round where this goes by the counts.
+which goes by the time of a round where this goes by the counts. Of a record it is the verdict, what is said of the given counts, why, and the load:
+
+  RECORD VERDICT tried ANSWER why REASON loaded LOAD
 
   tests/verdict_answers.py < crates/verdicts/stdin > crates/verdicts/stdout
   tests/verdict_answers.py --check     holds these rules to the verdicts in tests/data, which came from elsewhere
 """
 import struct, sys
-from limits import LAYOUTS, counts_ok, fault, worst_time
+from limits import LAYOUTS, counts_ok, fault
+from sets import holds, needed, smallest, times
 from show_answers import Refused, end_check, read, table, unhexed
+from why_answers import reason, tenths
 
 RECORD = 464
-
-# ---- sets of counts; a show is its drive, the layouts that are used, the sessions that are used
-
-def times(show, counts):
-    """U of each session's count; L is their sum."""
-    (_, cylinder), layouts, sessions = show
-    return [worst_time(cylinder, layouts[x[3]], m) for x, m in zip(sessions, counts)]
-
-def needed(show, counts):
-    """The smallest buffers that take the counts."""
-    (block, _), _, sessions = show
-    return [(m + 1) * block + x[1] for x, m in zip(sessions, counts)]
-
-def feasible(show, counts):
-    return all(size <= x[2] for x, size in zip(show[2], needed(show, counts)))
-
-def raised(show, counts):
-    """Each count, or the least that is ahead of its rate where it is not."""
-    unit, whole = show[0][0] * 10**6, sum(times(show, counts))
-    return [m if m * unit > x[0] * whole else x[0] * whole // unit + 1 for x, m in zip(show[2], counts)]
-
-def smallest(show):
-    """The least feasible workahead-augmenting set, or None. No such set has a count below these, whichever turn it is."""
-    counts = [1] * len(show[2])
-    while feasible(show, counts):
-        more = raised(show, counts)
-        if more == counts:
-            return counts
-        counts = more
-    return None
-
-def holds(show, counts):
-    return all(m >= 1 for m in counts) and feasible(show, counts) and raised(show, counts) == counts
 
 # ---- the answers to a record
 
@@ -60,16 +31,22 @@ def tried(show, counts):
 def rows(numbers, count):
     return [tuple(numbers[4 * i:4 * i + 4]) for i in range(count)]
 
+def refused(*no):
+    """A show outside the limits: each of the four says the same."""
+    said = 'refused %d %d' % no
+    return '%s tried %s why %s loaded %s' % (said, said, said, said)
+
 def answer(record):
     numbers = struct.unpack('<116I', record)
     block, cylinder, laid, playing = numbers[:4]
     if not counts_ok(laid, playing):
-        return 'refused 2 0 tried refused 2 0'
+        return refused(2, 0)
     show = (block, cylinder), rows(numbers[4:], laid), rows(numbers[4 + 4 * LAYOUTS:], playing)
     no = fault(*show)
     if no is not None:
-        return 'refused %d %d tried refused %d %d' % (*no, *no)
-    return '%s tried %s' % (decided(show), tried(show, list(numbers[100:100 + playing])))
+        return refused(*no)
+    given = list(numbers[100:100 + playing])
+    return '%s tried %s why %s loaded %d' % (decided(show), tried(show, given), ' '.join(map(str, reason(show))), tenths(show))
 
 # ---- the verdicts that came from elsewhere
 

@@ -3,14 +3,16 @@
 
   tests/verdict_cases.py > crates/verdicts/stdin
 
-What must come of them tests/verdict_answers.py says. Its smallest sets serve here too, for counts and buffers that just do and just do not.
+What must come of them tests/verdict_answers.py says. The smallest sets that it works out serve here too, for counts and buffers that just do and just do not.
 """
 import itertools, struct, sys
+import why_cases
 from dice import Dice
 from limits import LAYOUTS, SESSIONS, counts_ok, fault
+from made_shows import AMPLE, X, Z, alike, buffered, changed
+from sets import needed, smallest
 from show_answers import number, rows, table, unhexed
 from show_cases import BAD_LAYOUT, BAD_SESSION
-from verdict_answers import needed, smallest
 
 PAST = 2**32 - 1
 NONE = (0, 0, 0, 0)
@@ -18,9 +20,6 @@ DICE = Dice(2024)
 TURNS = itertools.count()
 
 # ---- the counts that are tried
-
-def changed(values, place, value):
-    return values[:place] + [value] + values[place + 1:]
 
 def near(counts, turn):
     """The counts, or others near them: by turns each kind, at each place."""
@@ -56,10 +55,6 @@ def put(show, laid=None, playing=None, rest=NONE, counts=None):
     tried = given(show, sound, next(TURNS)) if counts is None else counts
     sys.stdout.buffer.write(struct.pack('<116I', *itertools.chain(*fours), *tried))
 
-def buffered(show, sizes):
-    drive, layouts, sessions = show
-    return drive, layouts, [(x[0], x[1], size, x[3]) for x, size in zip(sessions, sizes)]
-
 def tight(show):
     """The show as it is; and, where it is accepted, with the buffers that are needed, and with one of them a byte short."""
     put(show)
@@ -86,12 +81,6 @@ def stored():
         put((drive, rows(data, first, min(laid, LAYOUTS)), rows(data, second, min(playing, SESSIONS))), laid, playing)
 
 # ---- the worked numbers, and each side of them
-
-X, Z = (20000, 2000, 10000, 5000), (20000, 0, 10000, 5000)
-AMPLE = 200_000_000
-
-def alike(layout, count, buffer=AMPLE, rate=512_000):
-    return (51200, 10), [layout], [(rate, 1, buffer, 0)] * count
 
 def worked():
     put(alike(X, 3), counts=[1] * 3 + [0] * 13)
@@ -222,8 +211,14 @@ def heavy():
         sessions = [(32_000_000 - under + 1000 * (2 * i - 15), 1, min(2**30, 512 * blocks), 0) for i in range(16)]
         put(((512, 10), [(1, 0, 1, 0)], sessions))
 
+# ---- each side of each reason
+
+def reasons():
+    for show in why_cases.shows():
+        put(show)
+
 def main():
-    for part in (worked, empty, stored, offenders, counted, orders, border, extremes, largest, heavy):
+    for part in (worked, empty, stored, offenders, counted, orders, border, extremes, largest, heavy, reasons):
         part()
     sys.stdout.buffer.write(bytes(463))    # cut short
 

@@ -1,13 +1,13 @@
-// Reads show files from standard input and prints what the report says of each. A record is a file's length, two bytes with the lowest
-// first, and the file. The answers, which tests/report_answers.py works out on its own:
-//   case RECORD, a line, and then the text
+// Reads show files from standard input and prints what `report` says of each, and then what `explain` does. A record is a file's length,
+// two bytes with the lowest first, and the file. The answers, which tests/report_answers.py works out on its own:
+//   case RECORD, a line, and then the two texts
 //   short, for a last record that is cut short
-// Each file is put to the library again, with a buffer that is too short by one and with one that is just long enough. Of this, and of the
+// Each file is put to each library again, with a buffer that is too short by one and with one that is just long enough. Of this, and of the
 // bytes after the text, a line is printed only where they are not as they must be.
 mod lent;
 
 ghost use mathlib.Core.Path.{_≡_};
-ghost use Prim.Native.Nat.{_<_};
+ghost use Prim.Native.Nat.{_≤_, _<_};
 ghost use lib.ListN.{length};
 use crate::lent::LENT;
 use crate::lent::alike_from;
@@ -15,7 +15,7 @@ use crate::lent::fresh;
 use drive::refusal::Check;
 use libc::STDIN_FILENO;
 use libc::STDOUT_FILENO;
-use report::TEXT_MOST;
+use showfile::Written;
 
 fn main() {
     let mut bytes = room();
@@ -72,17 +72,46 @@ fn answer(file: &[u8], place: usize) {
     say(b"case ");
     number(place as u64);
     say(b"\n");
-    let first = text(file);
-    too_short(file);
-    just_enough(file, &first);
+    tell(Call::Report, file);
+    tell(Call::Explain, file);
 }
 
-// ---- the three calls
+fn tell(call: Call, file: &[u8]) {
+    let first = text(call, file);
+    too_short(call, file);
+    just_enough(call, file, &first);
+}
+
+// ---- the calls
+
+enum Call {
+    Report,
+    Explain,
+}
+
+fn ask(call: Call, file: &[u8], buffer: &mut [u8]) -> Written
+    ensures { λ r. ⌜ r .len ≤ length (now (buffer .exit)) ⌝ }
+{
+    match call {
+        Call::Report => report::report(file, buffer),
+        Call::Explain => explain::explain(file, buffer),
+    }
+}
+
+// The shortest buffer that is granted.
+fn least(call: Call) -> usize
+    ensures { λ r. ⌜ (1 ≤ r) × (r ≤ 640) ⌝ }
+{
+    match call {
+        Call::Report => report::TEXT_MOST,
+        Call::Explain => explain::TEXT_MOST,
+    }
+}
 
 // Prints the text, and hands back the buffer that it came in.
-fn text(file: &[u8]) -> [u8; LENT] {
+fn text(call: Call, file: &[u8]) -> [u8; LENT] {
     let mut buffer = fresh();
-    let told = report::report(file, &mut buffer);
+    let told = ask(call, file, &mut buffer);
     let check = told.check;
     unless(number_of(check) == 0, b"refused as a whole\n");
     let n = told.len;
@@ -92,9 +121,10 @@ fn text(file: &[u8]) -> [u8; LENT] {
     buffer
 }
 
-fn too_short(file: &[u8]) {
+fn too_short(call: Call, file: &[u8]) {
     let mut buffer = fresh();
-    let told = report::report(file, &mut buffer[0..TEXT_MOST - 1]);
+    let n = least(call) - 1;
+    let told = ask(call, file, &mut buffer[0..n]);
     let check = told.check;
     unless(number_of(check) == 16, b"granted\n");
     unless(told.len == 0, b"granted\n");
@@ -103,9 +133,10 @@ fn too_short(file: &[u8]) {
 }
 
 // In a buffer of the least length the same is written, and nothing past it.
-fn just_enough(file: &[u8], first: &[u8; LENT]) {
+fn just_enough(call: Call, file: &[u8], first: &[u8; LENT]) {
     let mut second = fresh();
-    report::report(file, &mut second[0..TEXT_MOST]);
+    let n = least(call);
+    ask(call, file, &mut second[0..n]);
     unless(alike_from(0, first, &second), b"differs\n");
 }
 

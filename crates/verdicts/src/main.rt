@@ -1,11 +1,12 @@
-// Reads shows and counts from standard input and prints what the verdict's calls answer (docs/RULES.md, section 7). A record has 464
-// bytes, all of it numbers of 4 bytes, the lowest first:
+// Reads shows and counts from standard input and prints what the calls of `verdict` and `reason` answer (docs/RULES.md, sections 7 and 11).
+// A record has 464 bytes, all of it numbers of 4 bytes, the lowest first:
 //   A, N, the layout count, the session count, eight layouts and sixteen sessions of four numbers each, sixteen given counts
 // The answers, a line each, which tests/verdict_answers.py computes on its own:
-//   RECORD accepted L COUNT:U .. tried ANSWER
-//   RECORD refused NUMBER PLACE tried ANSWER
+//   RECORD accepted L COUNT:U .. tried ANSWER why REASON loaded LOAD
+//   RECORD refused NUMBER PLACE tried ANSWER why REASON loaded LOAD
 //   short, for a last record that is cut short
-// where ANSWER is `holds L U ..`, `fails L U ..` or `refused NUMBER PLACE`. Nothing is printed of what must be zero, unless it is not.
+// where ANSWER is `holds L U ..`, `fails L U ..` or `refused NUMBER PLACE`; REASON is `none`, `overload`, `beyond`, `buffer SESSION SIZE` or
+// `refused NUMBER PLACE`; LOAD is in tenths of a per cent, or `refused NUMBER PLACE`. Nothing is printed of what must be zero, unless it is not.
 mod given;
 
 ghost use mathlib.Core.Path.{_≡_};
@@ -19,6 +20,8 @@ use drive::Show;
 use drive::refusal::Refusal;
 use libc::STDIN_FILENO;
 use libc::STDOUT_FILENO;
+use reason::Loaded;
+use reason::Reason;
 use verdict::Answer;
 use verdict::Verdict;
 
@@ -65,10 +68,14 @@ fn answer(row: &[u8], place: usize)
     decide(show);
     say(b" tried");
     try_counts(show, counts_of(&n));
+    say(b" why");
+    explain(show);
+    say(b" loaded");
+    load(show);
     say(b"\n");
 }
 
-// ---- the two calls
+// ---- the four calls
 
 fn decide(show: Show) {
     let d = verdict::decide(show);
@@ -78,7 +85,7 @@ fn decide(show: Show) {
     match verdict {
         Verdict::Accepted => {
             say(b" accepted");
-            round(d.round);
+            spaced(d.round);
             pairs(show.playing, counts, times);
         }
         Verdict::Refused(why) => {
@@ -96,12 +103,12 @@ fn try_counts(show: Show, counts: [u32; 16]) {
     match answer {
         Answer::Holds => {
             say(b" holds");
-            round(t.round);
+            spaced(t.round);
             singles(show.playing, times);
         }
         Answer::Fails => {
             say(b" fails");
-            round(t.round);
+            spaced(t.round);
             singles(show.playing, times);
         }
         Answer::Refused(why) => {
@@ -109,6 +116,29 @@ fn try_counts(show: Show, counts: [u32; 16]) {
             beside(t.round);
             singles(0, times);
         }
+    }
+}
+
+fn explain(show: Show) {
+    let why = reason::why(show);
+    match why {
+        Reason::None => say(b" none"),
+        Reason::Overload => say(b" overload"),
+        Reason::Beyond => say(b" beyond"),
+        Reason::Buffer { session, size } => {
+            say(b" buffer");
+            spaced(session as u64);
+            spaced(size);
+        }
+        Reason::Refused(w) => refusal(w),
+    }
+}
+
+fn load(show: Show) {
+    let load = reason::load(show);
+    match load {
+        Loaded::Tenths(n) => spaced(n),
+        Loaded::Refused(w) => refusal(w),
     }
 }
 
@@ -122,9 +152,9 @@ fn number(n: u64) {
     io::print_decimal(STDOUT_FILENO, n);
 }
 
-fn round(l: u64) {
+fn spaced(n: u64) {
     say(b" ");
-    number(l);
+    number(n);
 }
 
 fn refusal(why: Refusal) {
@@ -174,7 +204,7 @@ fn singles(playing: usize, times: [u64; 16]) {
 
 fn single(plays: bool, time: u64) {
     if plays {
-        round(time);
+        spaced(time);
         return;
     }
     beside(time);
