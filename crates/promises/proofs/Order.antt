@@ -114,11 +114,11 @@ decide-says s d (accepted m h g) = λ w e. accepted-refused (sym e)
 decide-says s d (no-set h none) = λ w e. refused-says (2 ∷ 5 ∷ 6 ∷ 7 ∷ 8 ∷ []) refusal.NoSet tt w (ap Refused (same-verdict e))
 decide-says s d (outside v out) = λ w e. show-says (2 ∷ 5 ∷ 6 ∷ 7 ∷ 8 ∷ []) s tt tt tt tt w (out ∙ ap Refused (same-verdict e))
 
+pub of-refused : (s : Show) (w : Refusal) → ReasonIs s (reason.Refused w) → showCheck s ≡ Refused w
+of-refused s w (why.outside v out) = out
+
 why-says : (s : Show) (r : Reason) → ReasonIs s r → Says reason.Refused r (2 ∷ 5 ∷ 6 ∷ 7 ∷ [])
-why-says s r h w e = show-says (2 ∷ 5 ∷ 6 ∷ 7 ∷ []) s tt tt tt tt w (refused-is s w (subst (ReasonIs s) e h))
-  where
-    refused-is : (s : Show) (w : Refusal) → ReasonIs s (reason.Refused w) → showCheck s ≡ Refused w
-    refused-is s w (why.outside v out) = out
+why-says s r h w e = show-says (2 ∷ 5 ∷ 6 ∷ 7 ∷ []) s tt tt tt tt w (of-refused s w (subst (ReasonIs s) e h))
 
 load-says : (s : Show) → Says loaded.Refused (loadedOf s) (2 ∷ 5 ∷ 6 ∷ 7 ∷ [])
 unfolding loadedOf
