@@ -120,7 +120,7 @@ module _ (l : Load) (s : Sound l) where
       let r = least-time (x .0) (x .1) in
       (r .0, r .1, feasible-below l (λ i b. need-grows (unit l) unit-some (le-refl (l .stream i .rate)) (r .1 .least (x .0) (x .1))) (x .2))
 
-  -- The loop: t starts at 0 and becomes next t until it grows no more. It is never above a time that sustains.
+  -- A search: t starts at 0 and becomes next t until it grows no more. It is never above a time that sustains.
   pub start-below : NotPast l 0
   start-below x h = omega arith
 
@@ -135,12 +135,14 @@ module _ (l : Load) (s : Sound l) where
   turns-below zero t below = below
   turns-below (suc k) t below = turns-below k (next l t) (next-below t below)
 
-  -- Where it asks a session for a count that does not fit, no set is good.
+  -- Of an accepted show it asks for nothing that does not fit: so where it does, no set is good.
+  pub accepted-fits : (t : ℕ) → NotPast l t → Accepted l → Fits l t
+  accepted-fits t below a = feasible-below l (least-below t below (a .0) (a .1 .augmenting)) (a .1 .feasible)
+
   pub unfit-refuses :
       (t : ℕ) → NotPast l t → (i : ℕ) → i < l .playing →
       l .stream i .buffer < needed l i (asked l t i) → Accepted l → ⊥
-  unfit-refuses t below i b u a =
-      let f = feasible-below l (least-below t below (a .0) (a .1 .augmenting)) (a .1 .feasible) i b in omega arith
+  unfit-refuses t below i b u a = let f = accepted-fits t below a i b in omega arith
 
 -- There is one smallest set.
 pub smallest-once : (l : Load) (m o : ℕ → ℕ) → Smallest l m → Smallest l o → (i : ℕ) → i < l .playing → m i ≡ o i

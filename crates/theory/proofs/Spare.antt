@@ -44,7 +44,7 @@ lesser-second a b = elim (less? b a) [
   | no l ↦ rw (if-neg (less? b a) l b a) (not-less l)
 ]
 
-least-most : (f : ℕ → ℤ) (n k : ℕ) → k ≤ n → leastTo f n ≤ℤ f k
+pub least-most : (f : ℕ → ℤ) (n k : ℕ) → k ≤ n → leastTo f n ≤ℤ f k
 unfolding leastTo
 least-most f zero k h = let e : k ≡ 0 = omega arith in rw e (≤ℤ-refl (f 0))
 least-most f (suc n) k h = elim (decLe k n) [

@@ -34,6 +34,22 @@ sum-same f g zero h = refl
 sum-same f g (suc n) h =
     let p = sum-same f g n (λ i l. h i (omega arith)) in let q = h n (omega arith) in omega arith
 
+-- Where one place is changed, the sum changes by as much.
+pub sum-changed :
+    (f g : ℕ → ℕ) (n j : ℕ) → j < n → ((i : ℕ) → i < n → (i ≡ j → ⊥) → f i ≡ g i) → sumTo g n + f j ≡ sumTo f n + g j
+unfolding sumTo
+sum-changed f g zero j l h = absurd (let none : ⊥ = omega arith in none)
+sum-changed f g (suc n) j l h = elim (decLt j n) [
+  | yes b ↦
+      let p = sum-changed f g n j b (λ i m. h i (omega arith)) in
+      let q = h n (omega arith) (λ e. let none : ⊥ = omega arith in none) in
+      omega arith
+  | no b ↦
+      let p = sum-same f g n (λ i m. h i (omega arith) (λ e. let none : ⊥ = omega arith in none)) in
+      let last : n ≡ j = omega arith in
+      subst (λ (x : ℕ). sumTo g n + g n + f x ≡ sumTo f n + f n + g x) last (omega arith)
+]
+
 pub sum-longer : (f : ℕ → ℕ) {m n : ℕ} → m ≤ n → sumTo f m ≤ sumTo f n
 unfolding sumTo
 sum-longer f {m} {n} h = le-ind (λ k. sumTo f m ≤ sumTo f k) (le-refl (sumTo f m)) (λ k l g. omega arith) n h

@@ -14,7 +14,7 @@ asked l t i = need (l .stream i .rate) (unit l) t
 abbrev pub next : Load → ℕ → ℕ
 next l t = roundTime l (asked l t)
 
--- k turns from t: what the verdict's loop does.
+-- k turns from t, by which a least time is found.
 unfoldable pub turns : Load → ℕ → ℕ → ℕ
 turns l zero t = t
 turns l (suc k) t = turns l k (next l t)

@@ -1,5 +1,7 @@
 pub mod Spans
 pub mod Sets
+pub mod Ends
+pub mod Works
 pub mod Turns
 pub mod Once
 pub mod Decisions

@@ -1,31 +1,30 @@
 -- Sets as rows: the counts that a time asks for, the times of given counts, and whether those hold. Assumes nothing.
 use Prim.Native.Nat.{ℕ, _+_, _*_, _≤_, _<_}
-use mathlib.Core.Path.{_≡_, sym, _∙_, ap, subst}
+use mathlib.Core.Path.{_≡_, refl, sym, _∙_, ap, subst}
 use mathlib.Core.List.{List}
 use native.Mathlib.Omega.{arith}
 use native.Mathlib.Nat.{le-trans}
 use lib.ListN.{getD, set}
 use borrow.Author.Count.{below-more}
 use Rattle.drive.specs.declared.Show.{Show}
-use Rattle.drive.specs.Limits.{ShowWithin, sessionAt}
+use Rattle.drive.specs.Limits.{ShowWithin, layoutAt, sessionAt}
 use Rattle.drive.specs.Lists.{listed, padded}
 use Rattle.drive.proofs.Lists.{filled-more, filled-at, listed-same}
+use Rattle.cost.specs.Bound.{worstTime}
 use Rattle.cost.specs.declared.Cost.{Cost}
-use Rattle.cost.specs.Bound.{Limited, worstTime}
-use Rattle.cost.specs.Worst.{costOf, costsOf, noCost}
-use Rattle.cost.proofs.Costs.{cost-limited, costs-at}
+use Rattle.cost.specs.Worst.{readCost, costOf, costsOf, noCost}
+use Rattle.cost.proofs.Costs.{costs-at}
 use Rattle.theory.specs.Sum.{sumTo}
 use Rattle.theory.specs.Counts.{Load, unit, roundTime, Good, Smallest}
 use Rattle.theory.specs.Shows.{loadOf}
 use Rattle.theory.proofs.Sum.{sum-none, sum-more}
-use Rattle.theory.proofs.Rounds.{need-enough, need-least, need-some, unit-some, round-same, smallest-same}
+use Rattle.theory.proofs.Rounds.{need-enough, need-least, need-some, unit-some, smallest-same}
 use Rattle.theory.proofs.Shows.{show-sound}
-use Rattle.verdict.specs.Answers.{row, timesOf, setOf, TrialIs, holds, fails}
-use Rattle.verdict.specs.Steps.{spanOf, givenMost, timeMost, Held, Holds, timedOf}
+use Rattle.verdict.specs.Answers.{row, timesOf, setOf, timedAs, TrialIs, holds, fails}
+use Rattle.verdict.specs.Steps.{spanOf, givenMost, timeMost, Held, Holds}
 use Rattle.verdict.specs.declared.Answer.{Answer}
 use Rattle.verdict.specs.declared.Answer.the-variants as answer
 use Rattle.verdict.specs.declared.Trial.{Trial}
-use Rattle.verdict.specs.declared.given.Timed.{Timed}
 use Rattle.verdict.specs.declared.round.Span.{Span}
 use Rattle.verdict.proofs.Spans.{span-asked}
 
@@ -71,15 +70,19 @@ times-body s f sum out i u w h l e g =
       small = (let a = h .small in omega arith);
     }
 
-module _ (s : Show) (w : ShowWithin s) (costs : List Cost) (e : costs ≡ costsOf s) (i : ℕ) (l : i < s .playing) where
-  pub cost-same : getD costs i noCost ≡ costOf s i
-  cost-same = rw e (costs-at s (w .counts .sessions) i l)
+-- The row of costs has each session's at its place.
+pub cost-same :
+    (s : Show) → ShowWithin s → (costs : List Cost) → costs ≡ costsOf s → (i : ℕ) → i < s .playing → getD costs i noCost ≡ costOf s i
+cost-same s w costs e i l = rw e (costs-at s (w .counts .sessions) i l)
 
-  pub cost-of-limited : Limited (getD costs i noCost)
-  cost-of-limited = rw cost-same (cost-limited s w i l)
+-- A session of a show that is within the limits, and its layout.
+module _ (s : Show) (w : ShowWithin s) (i : ℕ) (l : i < s .playing) where
+  pub laid-below : sessionAt s i .layout < 8
+  laid-below = let a = w .sessions i l .layout in let b = w .counts .layouts .high in omega arith
 
-  pub time-same : (n : ℕ) → worstTime (s .drive .cylinder) (getD costs i noCost) n ≡ loadOf s .stream i .time n
-  time-same n = ap (λ (c : Cost). worstTime (s .drive .cylinder) c n) cost-same
+  pub time-same : (n : ℕ) → worstTime (s .drive .cylinder) (readCost (layoutAt s (sessionAt s i .layout))) n ≡ loadOf s .stream i .time n
+  unfolding costOf
+  time-same n = refl
 
 pub times-ended :
     (s : Show) (f : ℕ → ℕ) (sum : ℕ) (out : List ℕ) (i : ℕ) → ShowWithin s → TimedTo s f sum out i → s .playing ≤ i →
@@ -139,21 +142,25 @@ module _ (s : Show) (w : ShowWithin s) (m : ℕ → ℕ) where
       }
 
 -- What is answered of given counts, by their times.
-module _ (s : Show) (w : ShowWithin s) (m : List ℕ) (x : Timed) (e : x ≡ timedOf (loadOf s) (setOf m)) where
-  abbrev answered : Answer → Timed → Trial
-  answered a y = record { answer = a; round = y .round; times = y .times }
+module _
+    (s : Show) (w : ShowWithin s) (m : List ℕ) (round : ℕ) (times : List ℕ) (e : round ≡ roundTime (loadOf s) (setOf m))
+    (f : times ≡ timesOf (loadOf s) (setOf m))
+  where
+    abbrev answered : Answer → Trial
+    answered a = record { answer = a; round = round; times = times }
 
-  abbrev Over : Timed → Type 0
-  Over y = Holds (loadOf s) (y .round) (setOf m)
+    same : (a : Answer) → answered a ≡ timedAs a (loadOf s) (setOf m)
+    same a = λ i. record { answer = a; round = e i; times = f i }
 
-  pub trial-holds : Over x → TrialIs s m (answered answer.Holds x)
-  trial-holds h =
-      subst (λ (y : Timed). TrialIs s m (answered answer.Holds y)) (sym e) (holds w (holds-good s w (setOf m) (subst Over e h)))
+    abbrev Over : ℕ → Type 0
+    Over t = Holds (loadOf s) t (setOf m)
 
-  pub trial-fails : (Over x → ⊥) → TrialIs s m (answered answer.Fails x)
-  trial-fails none =
-      subst (λ (y : Timed). TrialIs s m (answered answer.Fails y)) (sym e)
-      (fails w (λ g. none (subst Over (sym e) (good-holds s w (setOf m) g))))
+    pub trial-holds : Over round → TrialIs s m (answered answer.Holds)
+    trial-holds h = subst (TrialIs s m) (sym (same answer.Holds)) (holds w (holds-good s w (setOf m) (subst Over e h)))
+
+    pub trial-fails : (Over round → ⊥) → TrialIs s m (answered answer.Fails)
+    trial-fails none =
+        subst (TrialIs s m) (sym (same answer.Fails)) (fails w (λ g. none (subst Over (sym e) (good-holds s w (setOf m) g))))
 
 -- ---- rows as sets
 
@@ -167,12 +174,3 @@ row-smallest l m = smallest-same l m (setOf (row l m)) (λ i h. sym (set-of-row 
 
 pub times-same : (l : Load) (m o : ℕ → ℕ) → ((i : ℕ) → i < l .playing → m i ≡ o i) → timesOf l m ≡ timesOf l o
 times-same l m o h = ap (padded 16 0) (listed-same _ _ (l .playing) (λ i g. ap (l .stream i .time) (h i g)))
-
--- The times of a row of counts are those of what it was filled with.
-pub row-timed : (l : Load) (m : ℕ → ℕ) → timedOf l (setOf (row l m)) ≡ timedOf l m
-row-timed l m =
-    λ i.
-    record {
-      round = round-same l (setOf (row l m)) m (set-of-row l m) i;
-      times = times-same l (setOf (row l m)) m (set-of-row l m) i;
-    }

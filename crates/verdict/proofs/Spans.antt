@@ -3,7 +3,10 @@ use Prim.Native.Nat.{ℕ, _+_, _*_, _/_, _≤_, _<_}
 use mathlib.Core.Path.{_≡_, ap}
 use native.Mathlib.Omega.{arith}
 use native.Mathlib.Nat.{le-trans, add-le-add, mul-le-mul, div-add-mod, div-le-self, mod-lt, div-lt-iff-lt-mul}
-use Rattle.drive.specs.Limits.{Between}
+use Rattle.drive.specs.declared.Layout.{Layout}
+use Rattle.drive.specs.Limits.{Between, LayoutWithin}
+use Rattle.cost.specs.Bound.{Limited}
+use Rattle.cost.specs.Worst.{readCost}
 use Rattle.theory.specs.Rounds.{need}
 use Rattle.verdict.specs.Steps.{spanOf, Short, askedOf, givenMost}
 use Rattle.verdict.specs.declared.round.Span.{Span}
@@ -35,3 +38,7 @@ span-short A t p h l e =
       rest = mod-lt t (omega arith);
       many = (let q : t / (A * 1000000) < 562949954 = div-lt-iff-lt-mul {k = A * 1000000} {x = t} {y = 562949954} (omega arith) .1 (omega arith) in omega arith);
     })
+
+-- What a read costs is within the limits of a cost.
+pub read-limited : (y : Layout) → LayoutWithin y → Limited (readCost y)
+read-limited y w = omega arith

@@ -1,16 +1,13 @@
 -- What the private functions ask and answer.
 use Prim.Native.Nat.{ℕ, _+_, _*_, _/_, _%_, _^_, _≤_, _<_}
-use mathlib.Core.Path.{_≡_}
-use Rattle.drive.specs.declared.Drive.{Drive}
+use mathlib.Core.Logic.{_↔_}
 use Rattle.drive.specs.declared.Session.{Session}
 use Rattle.drive.specs.declared.Show.{Show}
-use Rattle.cost.specs.declared.Cost.{Cost}
-use Rattle.cost.specs.Bound.{worstTime, Limited, worstMost}
-use Rattle.theory.specs.Counts.{Load, Feasible, Accepted, roundTime}
+use Rattle.drive.specs.Limits.{Between, sessionAt}
+use Rattle.cost.specs.Bound.{worstMost}
+use Rattle.theory.specs.Counts.{Load, Feasible, Accepted}
 use Rattle.theory.specs.Rounds.{need, asked, Fits, LeastTime}
 use Rattle.theory.specs.Shows.{loadOf}
-use Rattle.verdict.specs.Answers.{timesOf}
-use Rattle.verdict.specs.declared.given.Timed.{Timed}
 use Rattle.verdict.specs.declared.round.Span.{Span}
 use Rattle.verdict.specs.declared.round.Turn.{Turn}
 use Rattle.verdict.specs.declared.round.Turn.the-variants.{Takes, Full}
@@ -45,23 +42,27 @@ askedOf rate p = need rate (p .unit) (p .unit * p .whole + p .part)
 abbrev pub Room : ℕ → Session → ℕ → Type 0
 Room A x m = (m + 1) * A + x .cushion ≤ x .buffer
 
--- What is known of a session, its cost and the span, for its share of a round.
-pub record Sharing (A : ℕ) (x : Session) (c : Cost) (p : Span) : Type 0 where
-  pub block : 512 ≤ A
-  pub rate : x .rate ≤ 100000000
+-- What is known of a session, to tell how long a round its buffer takes.
+pub record Lasting (A : ℕ) (x : Session) : Type 0 where
+  pub block : Between 512 A 65536
+  pub rate : 1 ≤ x .rate
   pub buffer : x .buffer ≤ 1073741824
-  pub limited : Limited c
-  pub span : Short p
 
--- The count that a session is asked for has room, and takes u.
-pub record ShareIs (d : Drive) (x : Session) (c : Cost) (p : Span) (u : ℕ) : Type 0 where
-  pub room : Room (d .block) x (askedOf (x .rate) p)
-  pub time : u ≡ worstTime (d .cylinder) c (askedOf (x .rate) p)
-  pub small : u < worstMost
+-- The times below r are those below e over which the session's count has room.
+abbrev pub SoonerIs : ℕ → Session → ℕ → ℕ → Type 0
+SoonerIs A x e r = (t : ℕ) → (t < r) ↔ ((t < e) × Room A x (need (x .rate) (A * 1000000) t))
 
-abbrev pub SharedAs : Drive → Session → Cost → Span → Turn → Type 0
-SharedAs d x c p (Takes u) = ShareIs d x c p u
-SharedAs d x c p Full = Room (d .block) x (askedOf (x .rate) p) → ⊥
+-- No round of counts that fit takes so long.
+abbrev pub endMost : ℕ
+endMost = 1000000000000000
+
+-- The times below r are those below the most over which all counts fit.
+abbrev pub EndIs : Show → ℕ → Type 0
+EndIs s r = (t : ℕ) → (t < r) ↔ ((t < endMost) × Fits (loadOf s) t)
+
+-- each session's rate
+abbrev pub ratesOf : Show → ℕ → ℕ
+ratesOf s i = sessionAt s i .rate
 
 -- The least time that sustains, which fits; or that there is no set.
 pub record Settled (s : Show) (t : ℕ) : Type 0 where
@@ -72,10 +73,6 @@ pub record Settled (s : Show) (t : ℕ) : Type 0 where
 abbrev pub SettledAs : Show → Turn → Type 0
 SettledAs s (Takes t) = Settled s t
 SettledAs s Full = Accepted (loadOf s) → ⊥
-
--- L and each U of a set
-abbrev pub timedOf : Load → (ℕ → ℕ) → Timed
-timedOf l m = record { round = roundTime l m; times = timesOf l m }
 
 -- A count has room, and is no less than what is asked: so it is at least 1.
 pub record Held (A : ℕ) (x : Session) (p : Span) (m : ℕ) : Type 0 where

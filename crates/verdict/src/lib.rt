@@ -4,18 +4,16 @@ pub mod round;
 
 ghost use mathlib.Core.Path.{_≡_};
 ghost use Rattle.drive.specs.Limits.{ShowWithin};
-ghost use Rattle.cost.specs.Worst.{costsOf};
 ghost use Rattle.theory.specs.Rounds.{asked};
 ghost use Rattle.theory.specs.Shows.{loadOf};
 ghost use Rattle.verdict.specs.Answers.{DecisionIs, TrialIs, acceptedWith, refusedFor};
 ghost use Rattle.verdict.specs.Steps.{Settled};
-use crate::given::holds;
-use crate::given::times_of;
+use crate::given::held;
 use crate::round::Turn;
-use crate::round::counts;
+use crate::round::need;
 use crate::round::settle;
-use cost::Cost;
-use cost::costs_of;
+use crate::round::split;
+use crate::round::takes;
 use drive::Show;
 use drive::refusal::Check;
 use drive::refusal::Refusal;
@@ -55,26 +53,38 @@ pub fn decide(show: Show) -> Decision
     if let Check::Refused(why) = check {
         return refused(why);
     }
-    let costs = costs_of(show);
-    let settled = settle(show, costs);
+    let settled = settle(show);
     let Turn::Takes(t) = settled else {
         return refused(Refusal::NoSet);
     };
-    accepted(show, costs, t)
+    accepted(show, t)
 }
 
 // What a round of t µs asks for, and how long that takes.
-fn accepted(show: Show, costs: [Cost; 16], t: u64) -> Decision
+fn accepted(show: Show, t: u64) -> Decision
     requires { ⌜ ShowWithin show ⌝ }
-    requires { ⌜ (costs ≡ costsOf show) × Settled show t ⌝ }
+    requires { ⌜ Settled show t ⌝ }
     ensures { λ r. ⌜ r ≡ acceptedWith (loadOf show) (asked (loadOf show) t) ⌝ }
 {
-    let counts = counts(show, t);
-    let timed = times_of(show, costs, counts);
-    let times = timed.times;
+    let drive = show.drive;
+    let span = split(drive.block, t);
+    let mut round: u64 = 0;
+    let mut counts: [u32; 16] = [0; 16];
+    let mut times: [u64; 16] = [0; 16];
+    let mut i: usize = 0;
+    while i < show.playing {
+        let session = show.sessions[i];
+        let at = session.layout as usize;
+        let count = need(session.rate, span);
+        let time = takes(show.layouts[at], drive.cylinder, count as u32);
+        counts[i] = count as u32;
+        times[i] = time;
+        round += time;
+        i += 1;
+    }
     Decision {
         verdict: Verdict::Accepted,
-        round: timed.round,
+        round,
         counts,
         times,
     }
@@ -103,16 +113,29 @@ pub fn tried(show: Show, counts: [u32; 16]) -> Trial
             times: [0; 16],
         };
     }
-    let costs = costs_of(show);
-    let timed = times_of(show, costs, counts);
-    let times = timed.times;
-    let round = timed.round;
-    if !holds(show, counts, round) {
-        return Trial {
-            answer: Answer::Fails,
-            round,
-            times,
-        };
+    let drive = show.drive;
+    let mut round: u64 = 0;
+    let mut times: [u64; 16] = [0; 16];
+    let mut i: usize = 0;
+    while i < show.playing {
+        let session = show.sessions[i];
+        let at = session.layout as usize;
+        let time = takes(show.layouts[at], drive.cylinder, counts[i]);
+        times[i] = time;
+        round += time;
+        i += 1;
+    }
+    let span = split(drive.block, round);
+    let mut k: usize = 0;
+    while k < show.playing {
+        if !held(drive.block, show.sessions[k], span, counts[k]) {
+            return Trial {
+                answer: Answer::Fails,
+                round,
+                times,
+            };
+        }
+        k += 1;
     }
     Trial {
         answer: Answer::Holds,

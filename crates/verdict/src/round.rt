@@ -1,16 +1,13 @@
 // The least round time that sustains itself, and the counts that it asks for: docs/RULES.md, section 7.
 ghost use mathlib.Core.Path.{_≡_};
 ghost use Prim.Native.Nat.{_*_, _≤_};
-ghost use Rattle.drive.specs.Limits.{Tells, ShowWithin};
-ghost use Rattle.cost.specs.Bound.{Limited, worstTime};
-ghost use Rattle.cost.specs.Worst.{costsOf};
-ghost use Rattle.theory.specs.Rounds.{asked};
+ghost use Rattle.drive.specs.Limits.{Tells, LayoutWithin, ShowWithin};
+ghost use Rattle.cost.specs.Bound.{worstTime};
+ghost use Rattle.cost.specs.Worst.{readCost};
 ghost use Rattle.theory.specs.Shows.{loadOf};
 ghost use Rattle.verdict.specs.Answers.{row};
-ghost use Rattle.verdict.specs.Steps.{spanOf, Short, askedOf, Room, Sharing, SharedAs, Settled, SettledAs, timeMost};
-use cost::Cost;
-use cost::Time;
-use drive::Drive;
+ghost use Rattle.verdict.specs.Steps.{spanOf, Short, askedOf, Room, Lasting, SoonerIs, EndIs, ratesOf, SettledAs, timeMost};
+use drive::Layout;
 use drive::Session;
 use drive::Show;
 
@@ -69,72 +66,107 @@ pub(crate) fn fits(block: u32, session: Session, count: u64) -> bool
     true
 }
 
-// U(n). Within its limits a cost has an answer for every count.
-pub(crate) fn takes(cost: Cost, cylinder: u32, n: u32) -> u64
-    requires { ⌜ Limited cost ⌝ }
-    ensures { λ r. ⌜ (r ≡ worstTime cylinder cost n) × (r ≤ timeMost) ⌝ }
+// U(n) of reads on a layout within its limits.
+pub(crate) fn takes(layout: Layout, cylinder: u32, n: u32) -> u64
+    requires { ⌜ LayoutWithin layout × (1 ≤ cylinder) ⌝ }
+    ensures { λ r. ⌜ (r ≡ worstTime cylinder (readCost layout) n) × (r ≤ timeMost) ⌝ }
 {
-    match cost.time(cylinder, n) {
-        Time::Takes(t) => t,
-        Time::Beyond => 0,
-    }
+    let per = cylinder as u64;
+    let edges = (n as u64 + per - 1) / per;
+    let blocks = n as u64 * layout.time as u64;
+    let crossed = edges * layout.track as u64;
+    layout.longest as u64 + 2 * (layout.rotation as u64) + blocks + crossed
 }
 
-// A session's part of a round.
-fn share(drive: Drive, session: Session, cost: Cost, span: Span) -> Turn
-    requires { ⌜ Sharing (drive .block) session cost span ⌝ }
-    ensures { λ r. ⌜ SharedAs drive session cost span r ⌝ }
+// Past every round of counts that fit.
+const END_MOST: u64 = 1_000_000_000_000_000;
+
+// The first time over which the most that the session's buffer takes is no longer ahead of its rate; the end so far, if earlier.
+fn sooner(block: u32, session: Session, end: u64) -> u64
+    requires { ⌜ Lasting block session ⌝ }
+    ensures { λ r. ⌜ SoonerIs block session end r ⌝ }
 {
-    let count = need(session.rate, span);
-    if !fits(drive.block, session, count) {
-        return Turn::Full;
+    let taken = session.cushion as u64 + block as u64;
+    let buffer = session.buffer as u64;
+    if buffer < taken {
+        return 0;
     }
-    let time = takes(cost, drive.cylinder, count as u32);
-    Turn::Takes(time)
+    let rate = session.rate as u64;
+    let most = (buffer - taken) / (block as u64);
+    let last = (most * (block as u64 * 1_000_000) + rate - 1) / rate;
+    if last < end {
+        return last;
+    }
+    end
 }
 
-// The time t at which the counts that t asks for take no longer than t; none, once a count does not fit. Both loops stand here
-// so that no turn copies the show.
-pub(crate) fn settle(show: Show, costs: [Cost; 16]) -> Turn
+// The first time over which some count no longer fits its buffer.
+fn end_of(show: Show) -> u64
     requires { ⌜ ShowWithin show ⌝ }
-    requires { ⌜ costs ≡ costsOf show ⌝ }
-    ensures { λ r. ⌜ SettledAs show r ⌝ }
+    ensures { λ r. ⌜ EndIs show r ⌝ }
 {
-    let drive = show.drive;
-    let mut t: u64 = 0;
-    loop {
-        let span = split(drive.block, t);
-        let mut next: u64 = 0;
-        let mut i: usize = 0;
-        while i < show.playing {
-            let share = share(drive, show.sessions[i], costs[i], span);
-            let Turn::Takes(time) = share else {
-                return Turn::Full;
-            };
-            next += time;
-            i += 1;
-        }
-        if next <= t {
-            return Turn::Takes(t);
-        }
-        t = next;
+    let block = show.drive.block;
+    let mut end = END_MOST;
+    let mut i: usize = 0;
+    while i < show.playing {
+        end = sooner(block, show.sessions[i], end);
+        i += 1;
     }
+    end
 }
 
-// The counts that t asks for.
-pub(crate) fn counts(show: Show, t: u64) -> [u32; 16]
+// Each session's rate: in the search they lie side by side.
+fn rates_of(show: Show) -> [u64; 16]
     requires { ⌜ ShowWithin show ⌝ }
-    requires { ⌜ Settled show t ⌝ }
-    ensures { λ r. ⌜ r ≡ row (loadOf show) (asked (loadOf show) t) ⌝ }
+    ensures { λ r. ⌜ r ≡ row (loadOf show) (ratesOf show) ⌝ }
 {
-    let span = split(show.drive.block, t);
-    let mut counts: [u32; 16] = [0; 16];
+    let mut rates: [u64; 16] = [0; 16];
     let mut i: usize = 0;
     while i < show.playing {
         let session = show.sessions[i];
-        let count = need(session.rate, span);
-        counts[i] = count as u32;
+        rates[i] = session.rate as u64;
         i += 1;
     }
-    counts
+    rates
+}
+
+// The time t at which the counts that t asks for take no longer than t; none, once a count does not fit. A count that is still
+// ahead stays, and a longer time counts at once for the sessions after it. Both loops stand here so that no turn copies the show.
+pub(crate) fn settle(show: Show) -> Turn
+    requires { ⌜ ShowWithin show ⌝ }
+    ensures { λ r. ⌜ SettledAs show r ⌝ }
+{
+    let drive = show.drive;
+    let unit = drive.block as u64 * 1_000_000;
+    let end = end_of(show);
+    if end == 0 {
+        return Turn::Full;
+    }
+    let rates = rates_of(show);
+    let mut covered: [u64; 16] = [0; 16];
+    let mut times: [u64; 16] = [0; 16];
+    let mut t: u64 = 0;
+    loop {
+        let before = t;
+        let mut i: usize = 0;
+        while i < show.playing {
+            let work = rates[i] * t;
+            if covered[i] <= work {
+                let count = work / unit + 1;
+                let session = show.sessions[i];
+                let at = session.layout as usize;
+                let time = takes(show.layouts[at], drive.cylinder, count as u32);
+                t = t - times[i] + time;
+                if end <= t {
+                    return Turn::Full;
+                }
+                covered[i] = count * unit;
+                times[i] = time;
+            }
+            i += 1;
+        }
+        if t <= before {
+            return Turn::Takes(t);
+        }
+    }
 }

@@ -1,33 +1,107 @@
--- `accepted` answers what the least time asks for, with its times. Assumes nothing.
-use Prim.Native.Nat.{ℕ}
-use mathlib.Core.Path.{_≡_, ap, _∙_}
-use mathlib.Core.List.{List}
+use Prim.Native.Nat.{_-_}
+use mathlib.Core.Path.{_∙_, ap}
+use native.Mathlib.Omega.{arith}
 use borrow.Author.Needs.{needs}
-use Rattle.verdict.specs.declared.given.Timed.{Timed}
-use Rattle.verdict.specs.declared.Verdict.the-variants.{Accepted}
+use Rattle.drive.proofs.Lists.{filled-none}
+use Rattle.cost.proofs.Costs.{layout-within}
 use Rattle.theory.specs.Rounds.{asked}
 use Rattle.theory.specs.Shows.{loadOf}
-use Rattle.verdict.specs.Answers.{setOf}
-use Rattle.verdict.specs.Steps.{timedOf}
-use Rattle.verdict.proofs.Sets.{row-timed}
+use Rattle.verdict.specs.declared.Verdict.the-variants as verdict
+use Rattle.verdict.proofs.Spans.{span-short}
+use Rattle.verdict.proofs.Sets.{Filled, row-begun, row-body, row-ended, TimedTo, times-begun, times-body, times-ended, laid-below, time-same}
+use Rattle.verdict.proofs.Works.{asked-same, asked-few}
 use Rattle.verdict.proofs.accepted.Statement.{statement}
 use Rattle.verdict.proofs.accepted.Tie as tie
 
-counts-requires : tie.Need-counts-requires
-counts-requires c κs = search needs
+abbrev Inv-loop : tie.InvT-loop
+Inv-loop t show drive span round₀ counts₀ times₀ i₀ round counts times i = (Filled show (asked (loadOf show) t) counts i) × (TimedTo show (λ k. loadOf show .stream k .time (asked (loadOf show) t k)) round times i)
 
-times-of-requires : tie.Need-times-of-requires
-times-of-requires c κs = search needs
+abbrev μ-loop : tie.MeasureT-loop
+μ-loop t show drive span round₀ counts₀ times₀ i₀ round counts times i = show .playing - i
 
-timed : (c : tie.After-times) → c .before .times-of .result ≡ timedOf (loadOf (c .before .before .before .args .show)) (asked (loadOf (c .before .before .before .args .show)) (c .before .before .before .args .t))
-timed c = c .before .times-of .ensures .0 ∙ ap (λ (m : List ℕ). timedOf (loadOf (c .before .before .before .args .show)) (setOf m)) (c .before .before .counts .ensures)
-    ∙ row-timed (loadOf (c .before .before .before .args .show)) (asked (loadOf (c .before .before .before .args .show)) (c .before .before .before .args .t))
+split-requires : tie.Need-split-requires Inv-loop μ-loop
+split-requires c κs = let h = c .before .pre .0 .drive .block .low in omega arith
 
-returns : tie.Need-returns
-returns c =
-    let e = c .before .before .counts .ensures in
-    let t = timed c in
-    λ i. record { verdict = Accepted; round = ap (λ (x : Timed). x .round) t i; counts = e i; times = ap (λ (x : Timed). x .times) t i }
+loop-holds : tie.Need-loop-holds Inv-loop μ-loop
+loop-holds c = (row-begun _ _ _ (filled-none 16 0 _), times-begun _ _ _ (filled-none 16 0 _))
+
+mul-session : tie.Need-mul-session Inv-loop μ-loop
+mul-session c = let h = c .before .before .before .before .pre .0 .counts .sessions in let l = c .loop-test .taken in omega arith
+
+element-copy-out-session : tie.Need-element-copy-out-session Inv-loop μ-loop
+element-copy-out-session c = let h = c .before .before .before .before .pre .0 .counts .sessions in let l = c .loop-test .taken in omega arith
+
+cast-at : tie.Need-cast-at Inv-loop μ-loop
+cast-at c = search needs
+
+need-requires : tie.Need-need-requires Inv-loop μ-loop
+need-requires c κs = (c .before .before .before .before .before .before .pre .0 .sessions _ (c .before .before .loop-test .taken) .rate .high, span-short _ _ _ (c .before .before .before .before .before .before .pre .0 .drive .block) (let s = c .before .before .before .before .before .before .pre .1 .small in omega arith) (c .before .before .before .before .split .ensures))
+
+mul-takes : tie.Need-mul-takes Inv-loop μ-loop
+mul-takes c = let h = laid-below _ (c .before .before .before .before .before .before .before .pre .0) _ (c .before .before .before .loop-test .taken) in omega arith
+
+element-copy-out-takes : tie.Need-element-copy-out-takes Inv-loop μ-loop
+element-copy-out-takes c = let h = laid-below _ (c .before .before .before .before .before .before .before .pre .0) _ (c .before .before .before .loop-test .taken) in omega arith
+
+cast-takes : tie.Need-cast-takes Inv-loop μ-loop
+cast-takes c = let e = c .before .need .ensures in let f = asked-few _ (c .before .before .before .before .before .before .before .before .pre .0) _ _ _ (c .before .before .before .before .before .before .split .ensures) (c .before .before .before .before .loop-test .taken) (c .before .before .before .before .before .before .before .before .pre .1 .fits) in omega (arith, e, f)
+
+takes-requires : tie.Need-takes-requires Inv-loop μ-loop
+takes-requires c κs = (layout-within _ (c .before .before .before .before .before .before .before .before .pre .0) _ (c .before .before .before .before .loop-test .taken), c .before .before .before .before .before .before .before .before .pre .0 .drive .cylinder .low)
+
+cast-counts : tie.Need-cast-counts Inv-loop μ-loop
+cast-counts c = let e = c .before .before .need .ensures in let f = asked-few _ (c .before .before .before .before .before .before .before .before .before .pre .0) _ _ _ (c .before .before .before .before .before .before .before .split .ensures) (c .before .before .before .before .before .loop-test .taken) (c .before .before .before .before .before .before .before .before .before .pre .1 .fits) in omega (arith, e, f)
+
+mul-counts : tie.Need-mul-counts Inv-loop μ-loop
+mul-counts c = let h = c .before .before .before .before .before .before .before .before .before .pre .0 .counts .sessions in let l = c .before .before .before .before .before .loop-test .taken in omega arith
+
+array-write-counts : tie.Need-array-write-counts Inv-loop μ-loop
+array-write-counts c = let h = c .before .before .before .before .before .before .before .before .before .pre .0 .counts .sessions in let l = c .before .before .before .before .before .loop-test .taken in omega arith
+
+mul-times : tie.Need-mul-times Inv-loop μ-loop
+mul-times c = let h = c .before .before .before .before .before .before .before .before .before .pre .0 .counts .sessions in let l = c .before .before .before .before .before .loop-test .taken in omega arith
+
+array-write-times : tie.Need-array-write-times Inv-loop μ-loop
+array-write-times c = let h = c .before .before .before .before .before .before .before .before .before .pre .0 .counts .sessions in let l = c .before .before .before .before .before .loop-test .taken in omega arith
+
+add-round : tie.Need-add-round Inv-loop μ-loop
+add-round c = let a = c .before .before .before .before .before .before .loop .inv .1 .small in let u = c .takes .ensures .1 in let l = c .before .before .before .before .before .loop-test .taken in let n = c .before .before .before .before .before .before .before .before .before .pre .0 .counts .sessions in omega arith
+
+add-i : tie.Need-add-i Inv-loop μ-loop
+add-i c = search needs
+
+loop-less : tie.Need-loop-less Inv-loop μ-loop
+loop-less c = let l = c .before .before .before .before .before .loop-test .taken in omega arith
+
+loop-again : tie.Need-loop-again Inv-loop μ-loop
+loop-again c = let w = c .before .before .before .before .before .before .before .before .before .pre .0 in let l = c .before .before .before .before .before .loop-test .taken in let e = c .before .before .need .ensures ∙ asked-same _ w _ _ _ (c .before .before .before .before .before .before .before .split .ensures) in (row-body _ _ _ _ _ w (c .before .before .before .before .before .before .loop .inv .0) l e, times-body _ _ _ _ _ _ w (c .before .before .before .before .before .before .loop .inv .1) l (c .takes .ensures .0 ∙ time-same _ w _ l _ ∙ ap (loadOf _ .stream _ .time) e) (c .takes .ensures .1))
+
+returns : tie.Need-returns Inv-loop μ-loop
+returns c = let w = c .before .before .before .before .pre .0 in let r = times-ended _ _ _ _ _ w (c .before .loop .inv .1) (c .loop-test .left) in let m = row-ended _ _ _ _ (c .before .loop .inv .0) (c .loop-test .left) in (λ j. record { verdict = verdict.Accepted; round = r .0 j; counts = m j; times = r .1 j })
 
 pub accepted-spec : {M : Type 1} → statement M
-accepted-spec = tie.close (tie.spec counts-requires times-of-requires returns)
+accepted-spec =
+    tie.close
+    (tie.spec
+    Inv-loop
+    μ-loop
+    split-requires
+    loop-holds
+    mul-session
+    element-copy-out-session
+    cast-at
+    need-requires
+    mul-takes
+    element-copy-out-takes
+    cast-takes
+    takes-requires
+    cast-counts
+    mul-counts
+    array-write-counts
+    mul-times
+    array-write-times
+    add-round
+    add-i
+    loop-less
+    loop-again
+    returns)

@@ -26,14 +26,11 @@ returns c =
 enum-told : tie.Need-enum-told
 enum-told c = search needs
 
-costs-of-requires : tie.Need-costs-of-requires
-costs-of-requires c κs = search needs
-
 within : (c : tie.After-enum-told) → ShowWithin (c .before .before .before .args .show)
 within c = check-within _ (sym (c .before .before .check .ensures) ∙ c .enum-told .given .1)
 
 settle-requires : tie.Need-settle-requires
-settle-requires c κs = (within (c .before), c .costs-of .ensures)
+settle-requires c κs = within c
 
 enum-known-settled : tie.Need-enum-known-settled
 enum-known-settled c = search needs
@@ -47,17 +44,17 @@ refused-requires-2 c κs = search needs
 returns-2 : tie.Need-returns-2
 returns-2 c =
     subst (DecisionIs _) (sym (c .refused2 .ensures))
-    (no-set (within (c .before .before .before .before .before)) (subst (SettledAs _) (c .before .enum-told2 .given .1) (c .before .before .before .settle .ensures)))
+    (no-set (within (c .before .before .before .before)) (subst (SettledAs _) (c .before .enum-told2 .given .1) (c .before .before .before .settle .ensures)))
 
-settled-at : (c : tie.After-known-told2) → Settled (c .before .before .before .before .before .before .before .before .args .show) (c .before .settled .given .0 .0)
+settled-at : (c : tie.After-known-told2) → Settled (c .before .before .before .before .before .before .before .args .show) (c .before .settled .given .0 .0)
 settled-at c = subst (SettledAs _) (c .before .settled .given .1) (c .before .before .before .settle .ensures)
 
 accepted-requires : tie.Need-accepted-requires
-accepted-requires c κs = (within (c .before .before .before .before .before), (c .before .before .before .before .costs-of .ensures, settled-at c))
+accepted-requires c κs = (within (c .before .before .before .before), settled-at c)
 
 returns-3 : tie.Need-returns-3
 returns-3 c =
-    let w = within (c .before .before .before .before .before .before) in
+    let w = within (c .before .before .before .before .before) in
     let h = settled-at (c .before) in
     subst (DecisionIs _) (sym (c .accepted .ensures))
     (accepted _ w (least-smallest _ (show-sound _ w) _ (h .least) (h .fits)))
@@ -71,7 +68,6 @@ decide-spec =
     refused-requires
     returns
     enum-told
-    costs-of-requires
     settle-requires
     enum-known-settled
     enum-told-2

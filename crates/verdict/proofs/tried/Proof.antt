@@ -1,59 +1,186 @@
--- `tried` refuses a show outside the limits, and otherwise tells whether the counts hold, with their times. Assumes nothing.
+-- `tried` refuses a show outside the limits, and otherwise tells whether the counts hold, with their times. Invariants: the times of the
+-- first i sessions stand there; the counts of the first k hold. What falls: playing - i; playing - k. Assumes nothing.
+use Prim.Native.Nat.{_-_}
 use mathlib.Core.Path.{sym, _∙_}
-use borrow.Author.Needs.{needs}
+use native.Mathlib.Omega.{arith}
 use borrow.Author.Tests.{not-true, not-false}
 use Rattle.drive.specs.Limits.{ShowWithin}
 use Rattle.drive.proofs.Shows.{check-within}
 use Rattle.drive.proofs.Checks.{tells-yes, tells-no}
-use Rattle.verdict.specs.Answers.{untried}
-use Rattle.verdict.proofs.Sets.{trial-holds, trial-fails}
+use Rattle.drive.proofs.Lists.{filled-none}
+use Rattle.cost.proofs.Costs.{layout-within}
+use Rattle.theory.specs.Shows.{loadOf}
+use Rattle.verdict.specs.Answers.{setOf, untried}
+use Rattle.verdict.proofs.Spans.{span-short}
+use Rattle.verdict.proofs.Sets.{TimedTo, times-begun, times-body, times-ended, laid-below, time-same, HeldTo, held-begun, held-body, held-ended, held-broken, trial-holds, trial-fails}
+use borrow.Author.Needs.{needs}
 use Rattle.verdict.proofs.tried.Statement.{statement}
 use Rattle.verdict.proofs.tried.Tie as tie
 
-check-requires : tie.Need-check-requires
+abbrev Inv-loop : tie.InvT-loop
+Inv-loop show counts drive round₀ times₀ i₀ round times i =
+    TimedTo show (λ k. loadOf show .stream k .time (setOf counts k)) round times i
+
+abbrev μ-loop : tie.MeasureT-loop
+μ-loop show counts drive round₀ times₀ i₀ round times i = show .playing - i
+
+abbrev Inv-loop2 : tie.InvT-loop2
+Inv-loop2 show counts drive round times i span k₀ k = HeldTo show span (setOf counts) k
+
+abbrev μ-loop2 : tie.MeasureT-loop2
+μ-loop2 show counts drive round times i span k₀ k = show .playing - k
+
+check-requires : tie.Need-check-requires Inv-loop μ-loop Inv-loop2 μ-loop2
 check-requires c κs = search needs
 
-enum-known-check : tie.Need-enum-known-check
+enum-known-check : tie.Need-enum-known-check Inv-loop μ-loop Inv-loop2 μ-loop2
 enum-known-check c = search needs
 
-returns : tie.Need-returns
+returns : tie.Need-returns Inv-loop μ-loop Inv-loop2 μ-loop2
 returns c = untried _ (sym (c .before .before .before .check .ensures) ∙ c .before .check2 .given .1)
 
-enum-told : tie.Need-enum-told
+enum-told : tie.Need-enum-told Inv-loop μ-loop Inv-loop2 μ-loop2
 enum-told c = search needs
 
-costs-of-requires : tie.Need-costs-of-requires
-costs-of-requires c κs = search needs
-
-within : (c : tie.After-enum-told) → ShowWithin (c .before .before .before .args .show)
+within : (c : tie.After-enum-told Inv-loop μ-loop Inv-loop2 μ-loop2) → ShowWithin (c .before .before .before .args .t1)
 within c = check-within _ (sym (c .before .before .check .ensures) ∙ c .enum-told .given .1)
 
-times-of-requires : tie.Need-times-of-requires
-times-of-requires c κs = (within (c .before), c .costs-of .ensures)
+loop-holds : tie.Need-loop-holds Inv-loop μ-loop Inv-loop2 μ-loop2
+loop-holds c = times-begun _ _ _ (filled-none 16 0 _)
 
-holds-requires : tie.Need-holds-requires
-holds-requires c κs = (within (c .before .before .before), c .before .times-of .ensures .1)
+mul-session : tie.Need-mul-session Inv-loop μ-loop Inv-loop2 μ-loop2
+mul-session c = let h = within (c .before .before .before) .counts .sessions in let l = c .loop-test .taken in omega arith
 
-returns-2 : tie.Need-returns-2
+element-copy-out-session : tie.Need-element-copy-out-session Inv-loop μ-loop Inv-loop2 μ-loop2
+element-copy-out-session c = let h = within (c .before .before .before) .counts .sessions in let l = c .loop-test .taken in omega arith
+
+cast-at : tie.Need-cast-at Inv-loop μ-loop Inv-loop2 μ-loop2
+cast-at c = search needs
+
+mul-takes : tie.Need-mul-takes Inv-loop μ-loop Inv-loop2 μ-loop2
+mul-takes c = let h = laid-below _ (within (c .before .before .before .before .before)) _ (c .before .before .loop-test .taken) in omega arith
+
+element-copy-out-takes : tie.Need-element-copy-out-takes Inv-loop μ-loop Inv-loop2 μ-loop2
+element-copy-out-takes c = let h = laid-below _ (within (c .before .before .before .before .before)) _ (c .before .before .loop-test .taken) in omega arith
+
+mul-takes-2 : tie.Need-mul-takes-2 Inv-loop μ-loop Inv-loop2 μ-loop2
+mul-takes-2 c = let h = within (c .before .before .before .before .before .before) .counts .sessions in let l = c .before .before .before .loop-test .taken in omega arith
+
+array-read-takes : tie.Need-array-read-takes Inv-loop μ-loop Inv-loop2 μ-loop2
+array-read-takes c = let h = within (c .before .before .before .before .before .before) .counts .sessions in let l = c .before .before .before .loop-test .taken in omega arith
+
+takes-requires : tie.Need-takes-requires Inv-loop μ-loop Inv-loop2 μ-loop2
+takes-requires c κs = (layout-within _ (within (c .before .before .before .before .before .before)) _ (c .before .before .before .loop-test .taken), within (c .before .before .before .before .before .before) .drive .cylinder .low)
+
+mul-times : tie.Need-mul-times Inv-loop μ-loop Inv-loop2 μ-loop2
+mul-times c = let h = within (c .before .before .before .before .before .before .before) .counts .sessions in let l = c .before .before .before .before .loop-test .taken in omega arith
+
+array-write-times : tie.Need-array-write-times Inv-loop μ-loop Inv-loop2 μ-loop2
+array-write-times c = let h = within (c .before .before .before .before .before .before .before) .counts .sessions in let l = c .before .before .before .before .loop-test .taken in omega arith
+
+add-round : tie.Need-add-round Inv-loop μ-loop Inv-loop2 μ-loop2
+add-round c =
+    let a = c .before .before .before .before .before .loop .inv .small in
+    let b = c .takes .ensures .1 in
+    let l = c .before .before .before .before .loop-test .taken in
+    let n = within (c .before .before .before .before .before .before .before) .counts .sessions in
+    omega arith
+
+add-i : tie.Need-add-i Inv-loop μ-loop Inv-loop2 μ-loop2
+add-i c = search needs
+
+loop-less : tie.Need-loop-less Inv-loop μ-loop Inv-loop2 μ-loop2
+loop-less c = let l = c .before .before .before .before .loop-test .taken in omega arith
+
+loop-again : tie.Need-loop-again Inv-loop μ-loop Inv-loop2 μ-loop2
+loop-again c =
+    let e = c .takes .ensures in
+    let l = c .before .before .before .before .loop-test .taken in
+    times-body _ _ _ _ _ _ (within (c .before .before .before .before .before .before .before)) (c .before .before .before .before .before .loop .inv) l (e .0 ∙ time-same _ (within (c .before .before .before .before .before .before .before)) _ l _) (e .1)
+
+split-requires : tie.Need-split-requires Inv-loop μ-loop Inv-loop2 μ-loop2
+split-requires c κs = let h = within (c .before .before .before) .drive .block .low in omega arith
+
+loop2-holds : tie.Need-loop2-holds Inv-loop μ-loop Inv-loop2 μ-loop2
+loop2-holds c = held-begun _ _ _
+
+mul-held : tie.Need-mul-held Inv-loop μ-loop Inv-loop2 μ-loop2
+mul-held c = let h = within (c .before .before .before .before .before .before) .counts .sessions in let l = c .loop2-test .taken in omega arith
+
+element-copy-out-held : tie.Need-element-copy-out-held Inv-loop μ-loop Inv-loop2 μ-loop2
+element-copy-out-held c = let h = within (c .before .before .before .before .before .before) .counts .sessions in let l = c .loop2-test .taken in omega arith
+
+mul-held-2 : tie.Need-mul-held-2 Inv-loop μ-loop Inv-loop2 μ-loop2
+mul-held-2 c = let h = within (c .before .before .before .before .before .before .before) .counts .sessions in let l = c .before .loop2-test .taken in omega arith
+
+array-read-held : tie.Need-array-read-held Inv-loop μ-loop Inv-loop2 μ-loop2
+array-read-held c = let h = within (c .before .before .before .before .before .before .before) .counts .sessions in let l = c .before .loop2-test .taken in omega arith
+
+held-requires : tie.Need-held-requires Inv-loop μ-loop Inv-loop2 μ-loop2
+held-requires c κs =
+    let w = within (c .before .before .before .before .before .before .before) in
+    let x = w .sessions _ (c .before .loop2-test .taken) in
+    let r = (times-ended _ _ _ _ _ (within (c .before .before .before .before .before .before .before)) (c .before .before .before .before .before .loop .inv) (c .before .before .before .before .loop-test .left)) in
+    (w .drive .block .low, x .rate .high, x .buffer .high, span-short _ _ _ (w .drive .block) (r .2) (c .before .before .before .split .ensures))
+
+returns-2 : tie.Need-returns-2 Inv-loop μ-loop Inv-loop2 μ-loop2
 returns-2 c =
-    trial-fails _ (within (c .before .before .before .before .before)) _ _ (c .before .before .before .times-of .ensures .0)
-    (tells-no _ (c .before .holds .result) (not-true _ (c .if1 .taken)) (c .before .holds .ensures))
+    let r = (times-ended _ _ _ _ _ (within (c .before .before .before .before .before .before .before .before .before)) (c .before .before .before .before .before .before .before .loop .inv) (c .before .before .before .before .before .before .loop-test .left)) in
+    trial-fails _ (within (c .before .before .before .before .before .before .before .before .before)) _ _ _ (r .0) (r .1)
+    (held-broken _ _ _ _ (c .before .before .before .before .before .split .ensures) _ (c .before .before .before .loop2-test .taken) (tells-no _ (c .before .held .result) (not-true _ (c .if1 .taken)) (c .before .held .ensures)))
 
-returns-3 : tie.Need-returns-3
+add-k : tie.Need-add-k Inv-loop μ-loop Inv-loop2 μ-loop2
+add-k c = search needs
+
+loop2-less : tie.Need-loop2-less Inv-loop μ-loop Inv-loop2 μ-loop2
+loop2-less c = let l = c .before .before .before .loop2-test .taken in omega arith
+
+loop2-again : tie.Need-loop2-again Inv-loop μ-loop Inv-loop2 μ-loop2
+loop2-again c =
+    held-body _ _ _ _ (c .before .before .before .before .loop2 .inv) (c .before .before .before .loop2-test .taken)
+    (tells-yes _ (c .before .held .result) (not-false _ (c .if1 .left)) (c .before .held .ensures))
+
+returns-3 : tie.Need-returns-3 Inv-loop μ-loop Inv-loop2 μ-loop2
 returns-3 c =
-    trial-holds _ (within (c .before .before .before .before .before)) _ _ (c .before .before .before .times-of .ensures .0)
-    (tells-yes _ (c .before .holds .result) (not-false _ (c .if1 .left)) (c .before .holds .ensures))
+    let r = (times-ended _ _ _ _ _ (within (c .before .before .before .before .before .before)) (c .before .before .before .before .loop .inv) (c .before .before .before .loop-test .left)) in
+    trial-holds _ (within (c .before .before .before .before .before .before)) _ _ _ (r .0) (r .1) (held-ended _ _ _ _ (c .before .before .split .ensures) _ (c .before .loop2 .inv) (c .loop2-test .left))
 
 pub tried-spec : {M : Type 1} → statement M
 tried-spec =
     tie.close
     (tie.spec
+    Inv-loop
+    μ-loop
+    Inv-loop2
+    μ-loop2
     check-requires
     enum-known-check
     returns
     enum-told
-    costs-of-requires
-    times-of-requires
-    holds-requires
+    loop-holds
+    mul-session
+    element-copy-out-session
+    cast-at
+    mul-takes
+    element-copy-out-takes
+    mul-takes-2
+    array-read-takes
+    takes-requires
+    mul-times
+    array-write-times
+    add-round
+    add-i
+    loop-less
+    loop-again
+    split-requires
+    loop2-holds
+    mul-held
+    element-copy-out-held
+    mul-held-2
+    array-read-held
+    held-requires
     returns-2
+    add-k
+    loop2-less
+    loop2-again
     returns-3)
