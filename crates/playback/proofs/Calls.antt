@@ -3,6 +3,7 @@ use Prim.Native.Nat.{ℕ, _≤_, _<_}
 use mathlib.Core.Path.{_≡_, sym, ap, subst, _∙_}
 use native.Mathlib.Decide.{decLe, decLt}
 use native.Mathlib.Omega.{arith}
+use mathlib.Core.List.{List}
 use lib.ListN.{length, set}
 use Rattle.drive.specs.declared.refusal.Refusal.{Refusal}
 use Rattle.drive.specs.declared.refusal.Refusal.the-variants as refusal
@@ -13,10 +14,12 @@ use Rattle.run.specs.declared.State.{State}
 use Rattle.run.specs.declared.Underway.{Underway}
 use Rattle.run.specs.declared.Underway.the-variants as underway
 use Rattle.run.specs.declared.Run.{Run}
-use Rattle.run.specs.Run.{playing, stateAt, clipAt, withStates}
+use Rattle.run.specs.Run.{playing, stateAt, clipAt, wholeAt, PutAt, withStates, withCycle}
+use Rattle.run.specs.Seats.{Seated}
 use Rattle.run.specs.Sound.{SoundRun}
-use Rattle.run.specs.Steps.{passed, taken, landed}
-use Rattle.run.proofs.Steps.{passed-sound}
+use Rattle.run.specs.Steps.{passed, taken, stored, landed}
+use Rattle.run.proofs.Steps.{passed-sound, read-below}
+use Rattle.run.proofs.Seats.{sound-seated}
 use Rattle.run.proofs.Answered.{damaged-first, sound-then}
 use Rattle.player.specs.declared.Drawn.{Drawn}
 use Rattle.player.specs.Answers.{drawnOf}
@@ -26,6 +29,9 @@ use Rattle.player.proofs.Laws.{take-answers, granted-draws}
 use Rattle.run.specs.declared.Moved.{Moved}
 use Rattle.playback.specs.Answers.{spanCheck, passCheck, passOf, takeCheck, takeOf}
 use Rattle.playback.specs.Answers.{busyCheck, finishCheck, landedFor, finishOf}
+use Rattle.playback.specs.Parts.{clocksAfter, placeAfter, countedOff}
+use Rattle.playback.proofs.Clocks.{advanced-run}
+use Rattle.playback.proofs.Cycles.{counts-off}
 
 long : (d : ℕ) → 1000000000 < d → spanCheck d ≡ Refused refusal.TooLong
 long d l = unless-broken (decLe d 1000000000) refusal.TooLong (λ g. let f : ⊥ = omega arith in f)
@@ -108,6 +114,23 @@ module _ (r : Run) (d : ℕ) where
           moved-granted _ r _ q (sound-then r _ s ∙ first-within _ _ (short d l) ∙ ap busyCheck e)
           (g ∙ ap (λ (x : Run). landed x i) f ∙ ap (λ (u : Underway). landedFor u (passed r d)) (sym e))
 
+      -- the same from its parts: the states after d µs, the place and what is left
+      pub finish-counted :
+          (i : ℕ) (l : List State) (p n : ℕ) → r .underway ≡ underway.Read i → l ≡ clocksAfter (r .started) (r .show) d (r .states) →
+          p ≡ placeAfter (r .place) (r .left) (playing r) → n ≡ countedOff (r .left) (wholeAt r p) →
+          granted (withCycle (stored (withStates r l) i) p n underway.Nothing) ≡ finishOf r d
+      unfolding landed
+      finish-counted i l p n e f g h =
+          finish-granted i (withStates r l) _ e (advanced-run r d l f) (counts-off (stored (withStates r l) i) p g n h)
+
+-- A session under way is one of sixteen, and the cycle is somewhere.
+module _ (r : Run) (s : SoundRun r) (i : ℕ) (e : r .underway ≡ underway.Read i) where
+  pub read-few : i < 16
+  read-few = let b = read-below r s i e in let n = s .within .counts .sessions in omega arith
+
+  pub read-seated : Seated r
+  read-seated = sound-seated r s (let b = read-below r s i e in omega arith)
+
 -- The read under way is still under way after d µs.
 pub passed-reads :
     (r : Run) (d i : ℕ) (q : Run) → length (r .states) ≡ 16 → SoundRun r → r .underway ≡ underway.Read i → q ≡ passed r d →
@@ -115,3 +138,11 @@ pub passed-reads :
 unfolding passed
 passed-reads r d i q n s e f =
     (subst SoundRun (sym f) (passed-sound r d (let h = s .within .counts .sessions in omega arith) s), ap (λ (x : Run). x .underway) f ∙ e)
+
+-- Its block keeps to the limit on P.
+pub advanced-put :
+    (r : Run) (d i : ℕ) (l : List State) → length (r .states) ≡ 16 → SoundRun r → r .underway ≡ underway.Read i →
+    l ≡ clocksAfter (r .started) (r .show) d (r .states) → PutAt (withStates r l) i
+advanced-put r d i l n s e f =
+    let p = passed-reads r d i (withStates r l) n s e (advanced-run r d l f) in
+    p .0 .cycle .underway i (p .1) .put

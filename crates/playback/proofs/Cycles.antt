@@ -7,23 +7,67 @@ use native.Mathlib.Nat.{mod-self, mod-eq-of-lt}
 use native.Mathlib.Omega.{arith}
 use Rattle.run.specs.declared.Underway.the-variants.{Nothing}
 use Rattle.run.specs.declared.Run.{Run}
-use Rattle.run.specs.Run.{wholeAt, onward, withCycle}
+use Rattle.run.specs.Run.{playing, seatAt, wholeAt, onward, withCycle}
+use Rattle.run.specs.Seats.{Seated}
 use Rattle.run.specs.Steps.{counted}
+use Rattle.run.proofs.Steps.{onward-below}
+use Rattle.run.proofs.Seats.{seat-few}
+use Rattle.playback.specs.Parts.{placeAfter, countedOff}
 
-module _ (r : Run) where
-  pub counts-fewer : 1 < r .left → withCycle r (r .place) (r .left - 1) Nothing ≡ counted r
+-- ---- what is left
+
+module _ (left whole : ℕ) where
+  pub left-fewer : 1 < left → left - 1 ≡ countedOff left whole
+  left-fewer l = sym (if-neg (decLe left 1) (λ g. let f : ⊥ = omega arith in f) _ _)
+
+  pub left-whole : left ≤ 1 → whole ≡ countedOff left whole
+  left-whole l = sym (if-pos (decLe left 1) l _ _)
+
+-- ---- the place
+
+module _ (place left playing : ℕ) where
+  pub place-stays : 1 < left → place ≡ placeAfter place left playing
+  place-stays l = sym (if-neg (decLe left 1) (λ g. let f : ⊥ = omega arith in f) _ _)
+
+  module _ (h : left ≤ 1) where
+    goes : (place + 1) % playing ≡ placeAfter place left playing
+    goes = sym (if-pos (decLe left 1) h _ _)
+
+    pub place-on : place + 1 < playing → place + 1 ≡ placeAfter place left playing
+    place-on l = sym (mod-eq-of-lt l) ∙ goes
+
+    pub place-first : place < playing → playing ≤ place + 1 → 0 ≡ placeAfter place left playing
+    place-first l m =
+        let e : place + 1 ≡ playing = omega arith in
+        sym (ap (λ (k : ℕ). k % playing) e ∙ mod-self playing) ∙ goes
+
+-- ---- on a run
+
+module _ (r : Run) (p : ℕ) (e : p ≡ placeAfter (r .place) (r .left) (playing r)) where
+  module _ (h : Seated r) where
+    place-inside : p < playing r
+    place-inside =
+        elim (decLe (r .left) 1) [
+          | yes m ↦ rw (e ∙ if-pos (decLe (r .left) 1) m _ _) (onward-below r 1 (h .some .low))
+          | no m ↦ rw (e ∙ if-neg (decLe (r .left) 1) m _ _) (h .place)
+        ]
+
+    pub place-few : p < 16
+    place-few = let b = place-inside in let n = h .some .high in omega arith
+
+    pub seated-few : seatAt r p < 16
+    seated-few = seat-few r h p place-inside
+
+  pub counts-off : (l : ℕ) → l ≡ countedOff (r .left) (wholeAt r p) → withCycle r p l Nothing ≡ counted r
   unfolding counted
-  counts-fewer l = sym (if-neg (decLe (r .left) 1) (λ g. let f : ⊥ = omega arith in f) _ _)
-
-  pub counts-on : (p : ℕ) → p ≡ onward r 1 → r .left ≤ 1 → withCycle r p (wholeAt r p) Nothing ≡ counted r
-  unfolding counted
-  counts-on p e l =
-      ap (λ (k : ℕ). withCycle r k (wholeAt r k) Nothing) e ∙ sym (if-pos (decLe (r .left) 1) l _ _)
-
--- The place after another.
-module _ (place playing : ℕ) where
-  pub place-on : place + 1 < playing → place + 1 ≡ (place + 1) % playing
-  place-on l = sym (mod-eq-of-lt l)
-
-  pub place-first : place < playing → playing ≤ place + 1 → 0 ≡ (place + 1) % playing
-  place-first l h = let e : place + 1 ≡ playing = omega arith in sym (ap (λ (k : ℕ). k % playing) e ∙ mod-self playing)
+  counts-off l f =
+      elim (decLe (r .left) 1) [
+        | yes m ↦
+            (ap (λ (k : ℕ). withCycle r p k Nothing) (f ∙ if-pos (decLe (r .left) 1) m _ _)
+            ∙ ap (λ (k : ℕ). withCycle r k (wholeAt r k) Nothing) (e ∙ if-pos (decLe (r .left) 1) m _ _)
+            ∙ sym (if-pos (decLe (r .left) 1) m _ _))
+        | no m ↦
+            (ap (λ (k : ℕ). withCycle r p k Nothing) (f ∙ if-neg (decLe (r .left) 1) m _ _)
+            ∙ ap (λ (k : ℕ). withCycle r k (r .left - 1) Nothing) (e ∙ if-neg (decLe (r .left) 1) m _ _)
+            ∙ sym (if-neg (decLe (r .left) 1) m _ _))
+      ]

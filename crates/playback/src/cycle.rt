@@ -1,18 +1,16 @@
-// The cycle, when a block has come.
+// The cycle, when a block has come: numbers only, so that no run is copied.
 ghost use mathlib.Core.Path.{_≡_};
-ghost use Prim.Native.Nat.{_+_, _%_, _<_};
-ghost use Rattle.run.specs.declared.Underway.the-variants.{Read};
-ghost use Rattle.run.specs.Seats.{Seated};
-ghost use Rattle.run.specs.Sound.{SoundRun};
-ghost use Rattle.run.specs.Steps.{counted, landed};
-use run::Run;
-use run::Underway;
+ghost use Prim.Native.Nat.{_<_};
+ghost use Rattle.playback.specs.Parts.{placeAfter, countedOff};
 
-// After the last place comes the first.
-fn place_after(place: usize, playing: usize) -> usize
+// The place stays while blocks are left; after the last place comes the first.
+pub(crate) fn place_after(place: usize, left: u32, playing: usize) -> usize
     requires { ⌜ place < playing ⌝ }
-    ensures { λ r. ⌜ r ≡ (place + 1) % playing ⌝ }
+    ensures { λ r. ⌜ r ≡ placeAfter place left playing ⌝ }
 {
+    if 1 < left {
+        return place;
+    }
     let next = place + 1;
     if next < playing {
         return next;
@@ -21,27 +19,11 @@ fn place_after(place: usize, playing: usize) -> usize
 }
 
 // One block fewer is left; at none left the next session's whole count.
-fn count_off(run: Run) -> Run
-    requires { ⌜ Seated run ⌝ }
-    ensures { λ r. ⌜ r ≡ counted run ⌝ }
+pub(crate) fn count_off(left: u32, whole: u32) -> u32
+    ensures { λ r. ⌜ r ≡ countedOff left whole ⌝ }
 {
-    if 1 < run.left {
-        return run.with_cycle(run.place, run.left - 1, Underway::Nothing);
+    if 1 < left {
+        return left - 1;
     }
-    let place = place_after(run.place, run.show.playing);
-    let seat = run.order[place] as usize;
-    run.with_cycle(place, run.counts[seat], Underway::Nothing)
-}
-
-// A block has come for the session.
-pub(crate) fn land(run: Run, session: usize) -> Run
-    requires { ⌜ SoundRun run ⌝ }
-    requires { ⌜ run .underway ≡ Read session ⌝ }
-    ensures { λ r. ⌜ r ≡ landed run session ⌝ }
-{
-    let mut state = run.states[session];
-    state.put += run.show.drive.block as u64;
-    let mut next = run;
-    next.states[session] = state;
-    count_off(next)
+    whole
 }

@@ -5,10 +5,12 @@ mod cycle;
 ghost use mathlib.Core.Path.{_≡_};
 ghost use Prim.Native.Nat.{_*_, _≤_};
 ghost use Rattle.run.specs.Run.{putMost};
-ghost use Rattle.run.specs.Sound.{SoundRun};
-ghost use Rattle.run.specs.Steps.{ticked, passed};
+ghost use Rattle.run.specs.Steps.{ticked, filled};
 ghost use Rattle.playback.specs.Answers.{passOf, takeOf, finishOf};
-use crate::cycle::land;
+ghost use Rattle.playback.specs.Parts.{Clocked, clocksAfter};
+use crate::cycle::count_off;
+use crate::cycle::place_after;
+use drive::Show;
 use drive::refusal::Check;
 use drive::refusal::Refusal;
 use player::take_from;
@@ -36,28 +38,26 @@ fn tick(rate: u32, d: u64, state: State) -> State
     next
 }
 
-// The clocks after d µs.
-fn advance(run: Run, d: u64) -> Run
-    requires { ⌜ SoundRun run ⌝ }
+// The clocks after d µs. Of the run only the parts that they need, as the whole would be copied.
+fn advance(show: Show, mut states: [State; 16], started: bool, d: u64) -> [State; 16]
+    requires { ⌜ Clocked (show .playing) states ⌝ }
     requires { ⌜ d ≤ 1000000000 ⌝ }
-    ensures { λ r. ⌜ r ≡ passed run d ⌝ }
+    ensures { λ r. ⌜ r ≡ clocksAfter started show d states ⌝ }
 {
-    if !run.started {
-        return run;
+    if !started {
+        return states;
     }
-    let show = run.show;
-    let mut next = run;
     let mut i: usize = 0;
     while i < show.playing {
         let session = show.sessions[i];
-        next.states[i] = tick(session.rate, d, next.states[i]);
+        states[i] = tick(session.rate, d, states[i]);
         i += 1;
     }
-    next
+    states
 }
 
 // Time goes by, d µs: 19, 11.
-pub fn pass(run: Run, d: u64) -> Moved
+pub fn pass(mut run: Run, d: u64) -> Moved
     ensures { λ r. ⌜ r ≡ passOf run d ⌝ }
 {
     let Test::Sound = test_run(run) else {
@@ -72,14 +72,18 @@ pub fn pass(run: Run, d: u64) -> Moved
             run,
         };
     }
+    let show = run.show;
+    let states = run.states;
+    let next = advance(show, states, run.started, d);
+    run.states = next;
     Moved {
         check: Check::Within,
-        run: advance(run, d),
+        run,
     }
 }
 
 // A player takes n bytes of a session: 19, 9, 12, 10.
-pub fn take(run: Run, session: usize, n: u64) -> Moved
+pub fn take(mut run: Run, session: usize, n: u64) -> Moved
     ensures { λ r. ⌜ r ≡ takeOf run session n ⌝ }
 {
     let Test::Sound = test_run(run) else {
@@ -101,12 +105,21 @@ pub fn take(run: Run, session: usize, n: u64) -> Moved
         return Moved { check, run };
     };
     let state = drawn.state;
-    let mut next = run;
-    next.states[session] = state;
+    run.states[session] = state;
     Moved {
         check: Check::Within,
-        run: next,
+        run,
     }
+}
+
+// A block more is put.
+fn fill(state: State, block: u32) -> State
+    requires { ⌜ state .put ≤ putMost ⌝ }
+    ensures { λ r. ⌜ r ≡ filled block state ⌝ }
+{
+    let mut next = state;
+    next.put += block as u64;
+    next
 }
 
 // The read under way has come, after d µs: 19, 11, 17.
@@ -132,8 +145,25 @@ pub fn finish(run: Run, d: u64) -> Moved
             run,
         };
     };
+    let show = run.show;
+    let counts = run.counts;
+    let order = run.order;
+    let was = run.states;
+    let mut states = advance(show, was, run.started, d);
+    states[session] = fill(states[session], show.drive.block);
+    let place = place_after(run.place, run.left, show.playing);
+    let seat = order[place] as usize;
     Moved {
         check: Check::Within,
-        run: land(advance(run, d), session),
+        run: Run {
+            show,
+            counts,
+            states,
+            order,
+            place,
+            left: count_off(run.left, counts[seat]),
+            underway: Underway::Nothing,
+            started: run.started,
+        },
     }
 }

@@ -1,9 +1,9 @@
-// The cycle: who is skipped, and which read begins.
+// The cycle: which read begins.
 ghost use mathlib.Core.Path.{_≡_};
 ghost use Prim.Native.Nat.{_<_};
 ghost use Rattle.run.specs.Seats.{Seated};
 ghost use Rattle.run.specs.Sound.{SoundRun};
-ghost use Rattle.run.specs.Steps.{skipped, idled, leftAfter};
+ghost use Rattle.run.specs.Steps.{idled, leftAfter};
 ghost use Rattle.scheduler.specs.Answers.{arrived};
 use crate::Choice;
 use crate::Chosen;
@@ -12,35 +12,15 @@ use run::Run;
 use run::State;
 use run::Underway;
 
-// How many sessions from the place on have no room, up to the first that has.
-pub(crate) fn skips(run: Run) -> usize
-    requires { ⌜ SoundRun run ⌝ }
-    ensures { λ r. ⌜ r ≡ skipped run ⌝ }
-{
-    let show = run.show;
-    let playing = show.playing;
-    let mut k: usize = 0;
-    while k < playing {
-        let at = (run.place + k) % playing;
-        let seat = run.order[at] as usize;
-        if run.states[seat].room(show.sessions[seat], show.drive.block) {
-            return k;
-        }
-        k += 1;
-    }
-    k
-}
-
 // Nobody has room: the place has its whole count left again.
-pub(crate) fn idle(run: Run) -> Run
+pub(crate) fn idle(mut run: Run) -> Run
     requires { ⌜ Seated run ⌝ }
     ensures { λ r. ⌜ r ≡ idled run ⌝ }
 {
     let place = run.place;
     let seat = run.order[place] as usize;
-    let mut next = run;
-    next.left = run.counts[seat];
-    next
+    run.left = run.counts[seat];
+    run
 }
 
 // What is left where k were skipped: the whole count if any was.
@@ -62,8 +42,11 @@ pub(crate) fn arrive(run: Run, k: usize) -> Chosen
     let place = (run.place + k) % run.show.playing;
     let seat = run.order[place] as usize;
     let left = left_after(k, run.left, run.counts[seat]);
-    let next = run.with_cycle(place, left, Underway::Read(seat));
     let state = run.states[seat];
+    let show = run.show;
+    let counts = run.counts;
+    let states = run.states;
+    let order = run.order;
     if State::PUT_MOST < state.put + run.show.drive.block as u64 {
         return Chosen {
             choice: Choice::Refused(Refusal::PutLimit),
@@ -72,6 +55,15 @@ pub(crate) fn arrive(run: Run, k: usize) -> Chosen
     }
     Chosen {
         choice: Choice::Read(seat),
-        run: next,
+        run: Run {
+            show,
+            counts,
+            states,
+            order,
+            place,
+            left,
+            underway: Underway::Read(seat),
+            started: run.started,
+        },
     }
 }

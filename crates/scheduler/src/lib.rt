@@ -5,7 +5,6 @@ ghost use mathlib.Core.Path.{_≡_};
 ghost use Rattle.scheduler.specs.Answers.{chooseOf};
 use crate::cycle::arrive;
 use crate::cycle::idle;
-use crate::cycle::skips;
 use drive::refusal::Refusal;
 use run::Run;
 use run::Underway;
@@ -25,7 +24,7 @@ pub struct Chosen {
     pub run: Run,
 }
 
-// The next read, which is then under way, or Idle: 19, 13, 14.
+// The next read, which is then under way, or Idle: 19, 13, 14. The loop over those that are skipped stands here so that it copies no run.
 pub fn choose(run: Run) -> Chosen
     ensures { λ r. ⌜ r ≡ chooseOf run ⌝ }
 {
@@ -48,13 +47,19 @@ pub fn choose(run: Run) -> Chosen
             run,
         };
     }
-    let playing = run.show.playing;
-    let skipped = skips(run);
-    if playing <= skipped {
-        return Chosen {
-            choice: Choice::Idle,
-            run: idle(run),
-        };
+    let show = run.show;
+    let playing = show.playing;
+    let mut k: usize = 0;
+    while k < playing {
+        let at = (run.place + k) % playing;
+        let seat = run.order[at] as usize;
+        if run.states[seat].room(show.sessions[seat], show.drive.block) {
+            return arrive(run, k);
+        }
+        k += 1;
     }
-    arrive(run, skipped)
+    Chosen {
+        choice: Choice::Idle,
+        run: idle(run),
+    }
 }

@@ -14,15 +14,19 @@ use Rattle.verdict.specs.declared.Answer.the-variants as answer
 use Rattle.verdict.specs.declared.Trial.{Trial}
 use Rattle.verdict.specs.Answers.{TrialIs, holds, fails, untried, setOf}
 use Rattle.verdict.proofs.Once.{within-outside}
+use Rattle.drive.specs.declared.Session.{Session}
 use Rattle.run.specs.declared.Run.{Run}
-use Rattle.run.specs.declared.Underway.the-variants.{Nothing, Read}
-use Rattle.run.specs.Run.{playing, clipAt, stateAt, seatAt, wholeAt, RoomAt, PutAt}
+use Rattle.run.specs.declared.State.{State}
+use Rattle.run.specs.declared.Underway.{Underway}
+use Rattle.run.specs.declared.Underway.the-variants.{Read}
+use Rattle.run.specs.Run.{playing, clipAt, stateAt, seatAt, Room, putMost}
 use Rattle.run.proofs.Steps.{nothing-read}
-use Rattle.run.specs.Sound.{StateSound, StatesSound, Resting, Turning, MayRead, CycleSound, SoundRun}
+use Rattle.run.specs.Sound.{StateSound, StatesSound, NamesEach, MayRead, CycleSound, SoundRun}
 use Rattle.run.specs.Decisions.{sound?}
 use Rattle.sound.specs.declared.Test.{Test}
 use Rattle.sound.specs.declared.Test.the-variants as test
 use Rattle.sound.specs.Answers.{testOf}
+use Rattle.sound.specs.Steps.{testIf, AtRest, AtPlace, UnderwayAt}
 
 -- ---- the counts
 
@@ -58,51 +62,48 @@ module _ (r : Run) where
 
 -- ---- the cycle
 
-pub cycle-rests : (r : Run) → playing r ≡ 0 → (b : Bool) → Tells b (Resting r) → Tells b (CycleSound r)
-cycle-rests r e true h =
-    record {
-      empty = λ f. h;
-      turning = λ l. absurd (let f : ⊥ = omega arith in f);
-      underway = λ i f. nothing-read (sym (h .underway) ∙ f);
-    }
-cycle-rests r e false h = λ c. h (c .empty e)
+module _ (r : Run) (nobody : playing r ≡ 0) where
+  pub cycle-rests : (b : Bool) → Tells b (AtRest (r .place) (r .left) (r .underway)) → Tells b (CycleSound r)
+  cycle-rests true h =
+      record {
+        empty = λ f. record { place = h .first; left = h .none; underway = h .underway };
+        turning = λ l. absurd (let f : ⊥ = omega arith in f);
+        underway = λ i f. nothing-read (sym (h .underway) ∙ f);
+      }
+  cycle-rests false h =
+      λ c. (let e = c .empty nobody in h (record { first = e .place; none = e .left; underway = e .underway }))
 
 module _ (r : Run) (some : playing r ≡ 0 → ⊥) where
-  turns : CycleSound r → Turning r
-  turns c = c .turning (omega arith)
+  abbrev Placed : Type 0
+  Placed = AtPlace (r .order) (r .counts) (playing r) (r .place) (r .left)
 
-  pub cycle-past : playing r ≤ r .place → CycleSound r → ⊥
-  cycle-past l c = let p = turns c .place in omega arith
+  pub cycle-nowhere : (Placed → ⊥) → CycleSound r → ⊥
+  cycle-nowhere none c = let t = c .turning (omega arith) in none (record { inside = t .place; within = t .left })
 
-  pub cycle-spent : r .left < 1 → CycleSound r → ⊥
-  cycle-spent l c = let p = turns c .left .low in omega arith
+  pub cycle-reads :
+      Placed → (b : Bool) →
+      Tells b (UnderwayAt (r .underway) (seatAt r (r .place)) (stateAt r (seatAt r (r .place))) (clipAt r (seatAt r (r .place))) (r .show .drive .block)) →
+      Tells b (CycleSound r)
+  cycle-reads p true h =
+      record {
+        empty = λ e. absurd (some e);
+        turning = λ l. record { place = p .inside; left = p .within };
+        underway = λ i e. (let m = h i e in
+            subst (MayRead r) (sym (m .same)) (record { seat = refl; room = m .room; put = m .put }));
+      }
+  cycle-reads p false h =
+      λ c. h (λ i e. (let m = c .underway i e in
+      let at = subst (MayRead r) (m .seat) m in
+      record { same = m .seat; room = at .room; put = at .put }))
 
-  pub cycle-over : wholeAt r (r .place) < r .left → CycleSound r → ⊥
-  cycle-over l c = let p = turns c .left .high in omega arith
+-- ---- the read under way
 
-  pub cycle-other : (i : ℕ) → r .underway ≡ Read i → (i ≡ seatAt r (r .place) → ⊥) → CycleSound r → ⊥
-  cycle-other i e d c = d (c .underway i e .seat)
-
-  module _ (p : r .place < playing r) (low : 1 ≤ r .left) (high : r .left ≤ wholeAt r (r .place)) where
-    cycle-from : ((i : ℕ) → r .underway ≡ Read i → MayRead r i) → CycleSound r
-    cycle-from h =
-        record {
-          empty = λ e. absurd (some e);
-          turning = λ l. record { place = p; left = record { low = low; high = high } };
-          underway = h;
-        }
-
-    pub cycle-free : r .underway ≡ Nothing → CycleSound r
-    cycle-free e = cycle-from (λ i f. nothing-read (sym e ∙ f))
-
-    pub cycle-reads :
-        (i : ℕ) → r .underway ≡ Read i → i ≡ seatAt r (r .place) → (b : Bool) →
-        Tells b (RoomAt r (seatAt r (r .place)) × PutAt r (seatAt r (r .place))) → Tells b (CycleSound r)
-    cycle-reads i e s true h =
-        cycle-from (λ j f. (let same : j ≡ seatAt r (r .place) = (let g : Read i ≡ Read j = sym e ∙ f in let k : i ≡ j = cc in sym k ∙ s) in
-        subst (MayRead r) (sym same) (record { seat = refl; room = h .0; put = h .1 })))
-    cycle-reads i e s false h =
-        λ c. (let m = subst (MayRead r) s (c .underway i e) in h (m .room, m .put))
+pub read-told :
+    (u : Underway) (seat : ℕ) (s : State) (x : Session) (A i : ℕ) → u ≡ Read i → i ≡ seat → (b : Bool) →
+    Tells b (Room A x s × (s .put + A ≤ putMost)) → Tells b (UnderwayAt u seat s x A)
+read-told u seat s x A i e f true h =
+    λ j g. record { same = (let k : Read i ≡ Read j = sym e ∙ g in let l : i ≡ j = cc in sym l ∙ f); room = h .0; put = h .1 }
+read-told u seat s x A i e f false h = λ g. (let m = g i e in h (m .room, m .put))
 
 -- ---- the answer
 
@@ -112,6 +113,13 @@ module _ (r : Run) where
 
   pub test-damaged : (SoundRun r → ⊥) → test.Damaged ≡ testOf r
   test-damaged n = sym (if-neg (sound? r) n test.Sound test.Damaged)
+
+-- what is left to tell once all but the cycle is sound
+pub test-cycle :
+    (r : Run) → ShowWithin (r .show) → Good (loadOf (r .show)) (setOf (r .counts)) → StatesSound r → NamesEach (r .order) (playing r) →
+    (b : Bool) → Tells b (CycleSound r) → testIf b ≡ testOf r
+test-cycle r w g s o true h = test-sound r (record { within = w; counts = g; states = s; order = o; cycle = h })
+test-cycle r w g s o false h = test-damaged r (λ t. h (t .cycle))
 
 sound-damaged : {X : Type 0} → test.Sound ≡ test.Damaged → X
 sound-damaged e = let z : _≡_ {A = ℕ} 0 1 = cc in absurd (let f : ⊥ = omega arith in f)

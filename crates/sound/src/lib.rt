@@ -3,8 +3,9 @@ ghost use mathlib.Core.Path.{_≡_};
 ghost use Prim.Native.Nat.{_+_, _≤_};
 ghost use Rattle.drive.specs.Limits.{Tells};
 ghost use Rattle.run.specs.Run.{Room, putMost};
-ghost use Rattle.run.specs.Sound.{StatesSound, NamesEach, Resting, CycleSound};
+ghost use Rattle.run.specs.Sound.{NamesEach};
 ghost use Rattle.sound.specs.Answers.{testOf};
+ghost use Rattle.sound.specs.Steps.{testIf, AtRest, AtPlace, UnderwayAt};
 use drive::Session;
 use run::Run;
 use run::State;
@@ -19,6 +20,7 @@ pub enum Test {
 }
 
 // Damaged exactly if a line of docs/RULES.md, section 9, fails. The counts are tried first: nothing else may be looked at before the show.
+// The loop stands here so that the record is not copied for it.
 pub fn test_run(run: Run) -> Test
     ensures { λ r. ⌜ r ≡ testOf run ⌝ }
 {
@@ -29,32 +31,42 @@ pub fn test_run(run: Run) -> Test
     let Answer::Holds = answer else {
         return Test::Damaged;
     };
-    if !states_sound(run) {
-        return Test::Damaged;
+    let mut i: usize = 0;
+    while i < show.playing {
+        if !run.states[i].within(show.sessions[i], run.started) {
+            return Test::Damaged;
+        }
+        i += 1;
     }
     let order = run.order;
     if !names_each(order, show.playing) {
         return Test::Damaged;
     }
-    if !cycle_sound(run) {
+    let underway = run.underway;
+    if show.playing == 0 {
+        return told(rests(run.place, run.left, underway));
+    }
+    if !turns(order, counts, show.playing, run.place, run.left) {
         return Test::Damaged;
     }
-    Test::Sound
+    let place = run.place;
+    let seat = order[place] as usize;
+    told(may_read(
+        underway,
+        seat,
+        run.states[seat],
+        show.sessions[seat],
+        show.drive.block,
+    ))
 }
 
-fn states_sound(run: Run) -> bool
-    requires { ⌜ run .show .playing ≤ 16 ⌝ }
-    ensures { λ r. ⌜ Tells r (StatesSound run) ⌝ }
+fn told(sound: bool) -> Test
+    ensures { λ r. ⌜ r ≡ testIf sound ⌝ }
 {
-    let show = run.show;
-    let mut i: usize = 0;
-    while i < show.playing {
-        if !run.states[i].within(show.sessions[i], run.started) {
-            return false;
-        }
-        i += 1;
+    if sound {
+        return Test::Sound;
     }
-    true
+    Test::Damaged
 }
 
 // Whether the first places of an order name each of so many sessions once: each is one of them, and none was named before.
@@ -78,51 +90,52 @@ fn names_each(order: [u32; 16], playing: usize) -> bool
     true
 }
 
-// Where the cycle is, once the order is known to name each session once.
-fn cycle_sound(run: Run) -> bool
-    requires { ⌜ run .show .playing ≤ 16 ⌝ }
-    requires { ⌜ NamesEach (run .order) (run .show .playing) ⌝ }
-    ensures { λ r. ⌜ Tells r (CycleSound run) ⌝ }
+// Whether a cycle of nobody is at its beginning.
+fn rests(place: usize, left: u32, underway: Underway) -> bool
+    ensures { λ r. ⌜ Tells r (AtRest place left underway) ⌝ }
 {
-    if run.show.playing == 0 {
-        return rests(run);
-    }
-    let place = run.place;
-    if run.show.playing <= place {
+    if place != 0 {
         return false;
     }
-    let seat = run.order[place] as usize;
-    if run.left < 1 {
+    if left != 0 {
         return false;
     }
-    if run.counts[seat] < run.left {
-        return false;
-    }
-    let underway = run.underway;
-    let Underway::Read(session) = underway else {
-        return true;
-    };
-    if session != seat {
-        return false;
-    }
-    let show = run.show;
-    takes_one(run.states[seat], show.sessions[seat], show.drive.block)
-}
-
-fn rests(run: Run) -> bool
-    ensures { λ r. ⌜ Tells r (Resting run) ⌝ }
-{
-    if run.place != 0 {
-        return false;
-    }
-    if run.left != 0 {
-        return false;
-    }
-    let underway = run.underway;
     let Underway::Nothing = underway else {
         return false;
     };
     true
+}
+
+// Whether the cycle is at one of its places, and 1 to M of the count there is left, once the order is known to name each session once.
+fn turns(order: [u32; 16], counts: [u32; 16], playing: usize, place: usize, left: u32) -> bool
+    requires { ⌜ playing ≤ 16 ⌝ }
+    requires { ⌜ NamesEach order playing ⌝ }
+    ensures { λ r. ⌜ Tells r (AtPlace order counts playing place left) ⌝ }
+{
+    if playing <= place {
+        return false;
+    }
+    if left < 1 {
+        return false;
+    }
+    let seat = order[place] as usize;
+    if counts[seat] < left {
+        return false;
+    }
+    true
+}
+
+// Whether a read that is under way is one of the session at the place, and may be.
+fn may_read(underway: Underway, seat: usize, state: State, session: Session, block: u32) -> bool
+    ensures { λ r. ⌜ Tells r (UnderwayAt underway seat state session block) ⌝ }
+{
+    let Underway::Read(read) = underway else {
+        return true;
+    };
+    if read != seat {
+        return false;
+    }
+    takes_one(state, session, block)
 }
 
 // One more block has room, and keeps to the limit on P.

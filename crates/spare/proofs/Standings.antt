@@ -1,10 +1,9 @@
 -- How the sessions of a sound run stand: times and workaheads are small, and the least to spare is the slack. Assumes nothing.
-use Prim.Native.Nat.{ℕ, suc, _+_, _-_, _*_, _^_, _≤_, _<_}
+use Prim.Native.Nat.{ℕ, suc, _+_, _^_, _≤_, _<_}
 use mathlib.Core.Path.{_≡_, sym, ap, subst, _∙_}
 use mathlib.Core.List.{List}
-use native.Mathlib.Decide.{decLe}
 use native.Mathlib.Omega.{arith}
-use native.Mathlib.Nat.{le-of-lt, le-trans, mul-le-mul-right}
+use native.Mathlib.Nat.{le-of-lt}
 use lib.IntN.{ℤ, pos, negsuc, _-ℤ_}
 use lib.Signed.{mag}
 use mir.Syntax.{w64}
@@ -13,13 +12,11 @@ use Rattle.drive.proofs.Lists.{filled-at}
 use Rattle.cost.specs.Bound.{worstMost}
 use Rattle.cost.proofs.Bound.{worst-capped}
 use Rattle.cost.proofs.Costs.{cost-limited}
-use Rattle.theory.specs.Sum.{sumWhere}
 use Rattle.theory.specs.Spare.{rank}
 use Rattle.theory.specs.Shows.{loadOf}
 use Rattle.theory.proofs.Integers.{sub-pos, sub-less, from-negsuc}
 use Rattle.theory.proofs.Shows.{feasible-few}
-use Rattle.theory.proofs.Sum.{sum-capped, where-none, where-in, where-out, where-most}
-use Rattle.theory.proofs.Spare.{slack-same, rank-same, rank-below}
+use Rattle.theory.proofs.Spare.{slack-same, rank-same, rank-below, rank-apart}
 use Rattle.verdict.specs.declared.Trial.{Trial}
 use Rattle.verdict.specs.Answers.{TrialIs, holds, setOf, timesOf}
 use Rattle.verdict.proofs.Once.{trial-once}
@@ -29,7 +26,7 @@ use Rattle.run.specs.Run.{playing, stateAt, clipAt}
 use Rattle.run.specs.Sound.{SoundRun}
 use Rattle.spare.specs.declared.standing.Standing.{Standing}
 use Rattle.spare.specs.Times.{aheadAt, timeAt, slackTime, placeAt}
-use Rattle.spare.specs.Standing.{aheadIn, placeIn, aheadsOf, placesOf, PlacedBelow, standingOf, Fit, loadIn, spareIn, slackIn}
+use Rattle.spare.specs.Standing.{aheadIn, placeIn, aheadsOf, placesOf, PlacedBelow, standingOf, Fit, slackIn}
 use Rattle.spare.proofs.Aheads.{counting, ahead-small, sub-most}
 
 -- ---- what stands in the rows of a sound run
@@ -68,6 +65,8 @@ module _ (r : Run) where
               few = s .within .counts .sessions;
               times = λ i l. rw (time-in i l) (time-small i l);
               aheads = λ i l. rw (ahead-in i l) (let k = counting r s i l in ahead-small (clipAt r i) (stateAt r i) (k .put) (k .cushion) (k .clock));
+              below = placed-below;
+              apart = λ i j l m e. rank-apart (aheadAt r) (playing r) i j l m (sym (place-in i l) ∙ e ∙ place-in j m);
             }
 
     -- The times of a sound run's counts are those of its trial.
@@ -81,68 +80,9 @@ surveyed r a t p e f g =
     let h : p ≡ placesOf (aheadIn (aheadsOf r)) (playing r) = g ∙ ap (λ (x : List ℤ). placesOf (aheadIn x) (playing r)) e in
     rw (e, f, h)
 
--- ---- load
-
--- The times of the first j that stand at k's place or before it come to `sum`.
-pub record LoadedTo (s : Standing) (k sum j : ℕ) : Type 0 where
-  pub inside : j ≤ s .playing
-  pub capped : sum ≤ j * worstMost
-  pub is : sum ≡ sumWhere (λ i. decLe (placeIn (s .places) i) (placeIn (s .places) k)) (setOf (s .times)) j
-
-module _ (s : Standing) (k : ℕ) where
-  pub loaded-none : LoadedTo s k 0 0
-  loaded-none =
-      record {
-        inside = omega arith;
-        capped = omega arith;
-        is = sym (where-none (λ i. decLe (placeIn (s .places) i) (placeIn (s .places) k)) (setOf (s .times)));
-      }
-
-  pub loaded-in :
-      (sum j : ℕ) → LoadedTo s k sum j → Fit s → j < s .playing → placeIn (s .places) j ≤ placeIn (s .places) k →
-      LoadedTo s k (sum + setOf (s .times) j) (j + 1)
-  loaded-in sum j h f l b =
-      record {
-        inside = omega arith;
-        capped = (let c = h .capped in let t = f .times j l in omega arith);
-        is = ap (λ (x : ℕ). x + setOf (s .times) j) (h .is)
-            ∙ sym (where-in (λ i. decLe (placeIn (s .places) i) (placeIn (s .places) k)) (setOf (s .times)) j b);
-      }
-
-  pub loaded-out :
-      (sum j : ℕ) → LoadedTo s k sum j → j < s .playing → placeIn (s .places) k < placeIn (s .places) j →
-      LoadedTo s k sum (j + 1)
-  loaded-out sum j h l b =
-      record {
-        inside = omega arith;
-        capped = (let c = h .capped in omega arith);
-        is = h .is
-            ∙ sym (where-out (λ i. decLe (placeIn (s .places) i) (placeIn (s .places) k)) (setOf (s .times)) j
-            (λ g. let f : ⊥ = omega arith in f));
-      }
-
-  pub loaded-all : (sum j : ℕ) → LoadedTo s k sum j → s .playing ≤ j → sum ≡ loadIn s k
-  loaded-all sum j h l =
-      h .is
-      ∙ ap (sumWhere (λ i. decLe (placeIn (s .places) i) (placeIn (s .places) k)) (setOf (s .times)))
-      (let g = h .inside in let e : j ≡ s .playing = omega arith in e)
-
 -- ---- what a session has to spare
 
-module _ (s : Standing) (f : Fit s) where
-  pub load-small : (k : ℕ) → loadIn s k ≤ 16 * worstMost
-  load-small k =
-      le-trans (where-most (λ i. decLe (placeIn (s .places) i) (placeIn (s .places) k)) (setOf (s .times)) (s .playing))
-      (le-trans (sum-capped (setOf (s .times)) worstMost (s .playing) (λ i l. le-of-lt (f .times i l)))
-      (mul-le-mul-right worstMost (f .few)))
-
-less-small : (z : ℤ) (k : ℕ) → mag z < 2 ^ 62 → k ≤ 2 ^ 61 → SFits w64 (z -ℤ pos k)
+pub less-small : (z : ℤ) (k : ℕ) → mag z < 2 ^ 62 → k ≤ 2 ^ 61 → SFits w64 (z -ℤ pos k)
 less-small (pos n) k h l = rw (sub-pos n k) (record { sfits = sub-most n k (2 ^ 63) (omega arith) (omega arith) })
 less-small (negsuc n) k h l =
     rw (from-negsuc n, sub-less 0 (suc n) k) (record { sfits = sub-most 0 (suc n + k) (2 ^ 63) (omega arith) (omega arith) })
-
-pub spare-fits : (s : Standing) → Fit s → (k : ℕ) → k < s .playing → SFits w64 (spareIn s k)
-spare-fits s f k l =
-    let h = load-small s f k in
-    let g : loadIn s k ≤ 2 ^ 61 = omega arith in
-    less-small (aheadIn (s .aheads) k) (loadIn s k) (f .aheads k l) g

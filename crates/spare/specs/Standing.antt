@@ -1,12 +1,14 @@
 -- What the code between the calls goes by. No promise rests on it.
 use Prim.Native.Nat.{ℕ, _^_, _≤_, _<_}
+use mathlib.Core.Path.{_≡_}
+use mathlib.Core.Logic.{_⊎_}
 use mathlib.Core.List.{List}
 use lib.ListN.{getD}
 use lib.IntN.{ℤ, pos}
-use lib.Signed.{mag}
+use lib.Signed.{_<ℤ_, mag}
 use Rattle.drive.specs.Lists.{listed, padded}
 use Rattle.cost.specs.Bound.{worstMost}
-use Rattle.theory.specs.Spare.{rank, loadBy, spareBy, slackBy}
+use Rattle.theory.specs.Spare.{rank, spareBy, slackBy}
 use Rattle.theory.specs.Shows.{loadOf}
 use Rattle.verdict.specs.Answers.{setOf, timesOf}
 use Rattle.run.specs.declared.Run.{Run}
@@ -20,6 +22,10 @@ aheadIn l i = getD l i (pos 0)
 
 abbrev pub placeIn : List ℕ → ℕ → ℕ
 placeIn l i = getD l i 0
+
+-- i, with workahead a, comes before j, with workahead b
+abbrev pub BeforeAt : ℤ → ℤ → ℕ → ℕ → Type 0
+BeforeAt a b i j = (a <ℤ b) ⊎ ((a ≡ b) × (i < j))
 
 -- each session's workahead, and its place in increasing workahead; zeros above
 abbrev pub aheadsOf : Run → List ℤ
@@ -41,16 +47,15 @@ standingOf r =
       places = placesOf (aheadIn (aheadsOf r)) (playing r);
     }
 
--- Times and workaheads so small that no difference of them passes 64 bits.
+-- Times and workaheads so small that no difference of them passes 64 bits, and a place for each session.
 pub record Fit (s : Standing) : Type 0 where
   pub few : s .playing ≤ 16
   pub times : (i : ℕ) → i < s .playing → setOf (s .times) i < worstMost
   pub aheads : (i : ℕ) → i < s .playing → mag (aheadIn (s .aheads) i) < 2 ^ 62
+  pub below : PlacedBelow (s .places) (s .playing)
+  pub apart : (i j : ℕ) → i < s .playing → j < s .playing → placeIn (s .places) i ≡ placeIn (s .places) j → i ≡ j
 
--- load, spare and slack of a standing
-abbrev pub loadIn : Standing → ℕ → ℕ
-loadIn s k = loadBy (placeIn (s .places)) (setOf (s .times)) (s .playing) k
-
+-- what a session of a standing has to spare, and the least of these
 abbrev pub spareIn : Standing → ℕ → ℤ
 spareIn s k = spareBy (placeIn (s .places)) (aheadIn (s .aheads)) (setOf (s .times)) (s .playing) k
 

@@ -1,9 +1,12 @@
 // How the sessions of a run stand to one another, and the least that one of them has to spare.
 ghost use mathlib.Core.Path.{_≡_};
-ghost use Prim.Native.Nat.{_<_};
+ghost use Prim.Native.Nat.{_^_, _≤_, _<_};
+ghost use lib.IntN.{pos, _-ℤ_};
+ghost use lib.Signed.{mag};
 ghost use Rattle.run.specs.Sound.{SoundRun};
-ghost use Rattle.spare.specs.Standing.{Fit, loadIn, spareIn, slackIn, standingOf};
+ghost use Rattle.spare.specs.Standing.{Fit, slackIn, standingOf};
 use crate::ahead::aheads;
+use crate::order::ordered;
 use crate::order::places;
 use run::Run;
 use verdict::tried;
@@ -35,47 +38,35 @@ pub(crate) fn survey(run: Run) -> Standing
     }
 }
 
-// The times up to and including session k's own.
-fn load(s: Standing, k: usize) -> u64
-    requires { ⌜ Fit s ⌝ }
-    requires { ⌜ k < 16 ⌝ }
-    ensures { λ r. ⌜ r ≡ loadIn s k ⌝ }
+// A workahead minus the times up to and including its own.
+fn taken(ahead: i64, load: u64) -> i64
+    requires { ⌜ (mag ahead < 2 ^ 62) × (load ≤ 2 ^ 61) ⌝ }
+    ensures { λ r. ⌜ r ≡ ahead -ℤ pos load ⌝ }
 {
-    let place = s.places[k];
-    let mut sum: u64 = 0;
-    let mut j: usize = 0;
-    while j < s.playing {
-        if s.places[j] <= place {
-            sum += s.times[j];
-        }
-        j += 1;
-    }
-    sum
+    ahead - load as i64
 }
 
-// Its workahead minus these.
-fn spare_of(s: Standing, k: usize) -> i64
-    requires { ⌜ Fit s ⌝ }
-    requires { ⌜ k < s .playing ⌝ }
-    ensures { λ r. ⌜ r ≡ spareIn s k ⌝ }
-{
-    let ahead = s.aheads[k];
-    ahead - load(s, k) as i64
-}
-
-// The least of them.
+// The least of them: the sessions one after the other, each at its place.
 pub(crate) fn least(s: Standing) -> i64
     requires { ⌜ Fit s ⌝ }
     requires { ⌜ 0 < s .playing ⌝ }
     ensures { λ r. ⌜ r ≡ slackIn s ⌝ }
 {
-    let mut least = spare_of(s, 0);
+    let none: [u32; 16] = [0; 16];
+    let places = s.places;
+    let seats = ordered(none, places, s.playing);
+    let first = seats[0] as usize;
+    let mut sum = s.times[first];
+    let mut least = taken(s.aheads[first], sum);
     let mut k: usize = 1;
     while k < s.playing {
-        let spare = spare_of(s, k);
+        let i = seats[k] as usize;
+        let load = sum + s.times[i];
+        let spare = taken(s.aheads[i], load);
         if spare < least {
             least = spare;
         }
+        sum = load;
         k += 1;
     }
     least

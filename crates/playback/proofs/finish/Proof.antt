@@ -1,15 +1,25 @@
 -- `finish` lets time go by and stores the block. Assumes nothing.
 use mathlib.Core.Path.{_≡_}
+use native.Mathlib.Omega.{arith}
 use lib.ListN.{length}
 use Rattle.drive.proofs.Lists.{unmapped}
+use Rattle.run.specs.Sound.{SoundRun}
 use Rattle.sound.proofs.Tests.{tested-sound, tested-damaged}
-use Rattle.playback.proofs.Calls.{finish-damaged, finish-long, finish-nothing, finish-granted, passed-reads}
+use Rattle.playback.proofs.Clocks.{sound-clocked}
+use Rattle.playback.proofs.Cycles.{place-few, seated-few}
+use Rattle.playback.proofs.Calls.{finish-damaged, finish-long, finish-nothing, finish-counted, read-few, read-seated, advanced-put}
 use borrow.Author.Needs.{needs}
 use Rattle.playback.proofs.finish.Statement.{statement}
 use Rattle.playback.proofs.finish.Tie as tie
 
-sized : (c : tie.Start) → length (c .args .run .states) ≡ 16
-sized c = search (unmapped, needs)
+sized-first : (c : tie.Start) → length (c .args .run .states) ≡ 16
+sized-first c = search (unmapped, needs)
+
+sized : (k : tie.After-known-told) → length (k .before .before .before .before .before .before .before .args .run .states) ≡ 16
+sized k = sized-first (k .before .before .before .before .before .before .before)
+
+sound : (k : tie.After-known-told) → SoundRun (k .before .before .before .before .before .before .before .args .run)
+sound k = tested-sound _ _ (k .before .before .before .before .before .before .test-run .ensures) (k .before .before .before .before .enum-told .given .1)
 
 test-run-requires : tie.Need-test-run-requires
 test-run-requires c κs = search needs
@@ -36,13 +46,46 @@ returns-3 : tie.Need-returns-3
 returns-3 c = finish-nothing _ _ (tested-sound _ _ (c .before .before .before .before .before .test-run .ensures) (c .before .before .before .enum-told .given .1)) (c .before .before .if1 .left) (c .enum-told3 .given .1)
 
 advance-requires : tie.Need-advance-requires
-advance-requires c κs = ((tested-sound _ _ (c .before .before .before .before .before .before .test-run .ensures) (c .before .before .before .before .enum-told .given .1)), c .before .before .before .if1 .left)
+advance-requires c κs = let k = c .before .before .before .before in (sound-clocked _ (sound k), k .before .before .before .if1 .left)
 
-land-requires : tie.Need-land-requires
-land-requires c κs = passed-reads _ _ _ _ (sized (c .before .before .before .before .before .before .before .before)) (tested-sound _ _ (c .before .before .before .before .before .before .before .test-run .ensures) (c .before .before .before .before .before .enum-told .given .1)) (c .before .before .underway .given .1) (c .advance .ensures)
+mul-fill : tie.Need-mul-fill
+mul-fill c = let k = c .before .before .before .before .before in let b = read-few _ (sound k) _ (k .before .underway .given .1) in omega arith
+
+array-copy-out-fill : tie.Need-array-copy-out-fill
+array-copy-out-fill c = let k = c .before .before .before .before .before in read-few _ (sound k) _ (k .before .underway .given .1)
+
+fill-requires : tie.Need-fill-requires
+fill-requires c κs = let k = c .before .before .before .before .before .before in let p = advanced-put _ _ _ _ (sized k) (sound k) (k .before .underway .given .1) (c .before .advance .ensures) in omega arith
+
+mul-states : tie.Need-mul-states
+mul-states c = let k = c .before .before .before .before .before .before .before in let b = read-few _ (sound k) _ (k .before .underway .given .1) in omega arith
+
+array-set-from-states : tie.Need-array-set-from-states
+array-set-from-states c = let k = c .before .before .before .before .before .before .before in read-few _ (sound k) _ (k .before .underway .given .1)
+
+place-after-requires : tie.Need-place-after-requires
+place-after-requires c κs = let k = c .before .before .before .before .before .before .before in read-seated _ (sound k) _ (k .before .underway .given .1) .place
+
+mul-seat : tie.Need-mul-seat
+mul-seat c = let k = c .before .before .before .before .before .before .before .before in let b = place-few _ _ (c .place-after .ensures) (read-seated _ (sound k) _ (k .before .underway .given .1)) in omega arith
+
+array-read-seat : tie.Need-array-read-seat
+array-read-seat c = let k = c .before .before .before .before .before .before .before .before in place-few _ _ (c .place-after .ensures) (read-seated _ (sound k) _ (k .before .underway .given .1))
+
+cast-seat : tie.Need-cast-seat
+cast-seat c = let k = c .before .before .before .before .before .before .before .before in let b = seated-few _ _ (c .place-after .ensures) (read-seated _ (sound k) _ (k .before .underway .given .1)) in omega arith
+
+mul-count-off : tie.Need-mul-count-off
+mul-count-off c = let k = c .before .before .before .before .before .before .before .before in let b = seated-few _ _ (c .place-after .ensures) (read-seated _ (sound k) _ (k .before .underway .given .1)) in omega arith
+
+array-read-count-off : tie.Need-array-read-count-off
+array-read-count-off c = let k = c .before .before .before .before .before .before .before .before in seated-few _ _ (c .place-after .ensures) (read-seated _ (sound k) _ (k .before .underway .given .1))
+
+count-off-requires : tie.Need-count-off-requires
+count-off-requires c κs = search needs
 
 returns-4 : tie.Need-returns-4
-returns-4 c = finish-granted _ _ (tested-sound _ _ (c .before .before .before .before .before .before .before .before .test-run .ensures) (c .before .before .before .before .before .before .enum-told .given .1)) (c .before .before .before .before .before .if1 .left) _ _ _ (c .before .before .before .underway .given .1) (c .before .advance .ensures) (c .land .ensures)
+returns-4 c = let k = c .before .before .before .before .before .before .before .before .before in rw (c .before .before .fill .ensures) (finish-counted _ _ (sound k) (k .before .before .before .if1 .left) _ _ _ _ (k .before .underway .given .1) (c .before .before .before .before .advance .ensures) (c .before .place-after .ensures) (c .count-off .ensures))
 
 pub finish-spec : {M : Type 1} → statement M
 finish-spec =
@@ -57,5 +100,16 @@ finish-spec =
     enum-told-3
     returns-3
     advance-requires
-    land-requires
+    mul-fill
+    array-copy-out-fill
+    fill-requires
+    mul-states
+    array-set-from-states
+    place-after-requires
+    mul-seat
+    array-read-seat
+    cast-seat
+    mul-count-off
+    array-read-count-off
+    count-off-requires
     returns-4)

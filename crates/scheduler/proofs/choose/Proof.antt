@@ -1,57 +1,111 @@
--- `choose` answers the next read, or Idle. Assumes nothing.
+-- `choose` answers the next read, or Idle. Invariant: the first k from the place on have no room; what falls: playing - k. Assumes nothing.
+use Prim.Native.Nat.{_-_}
 use mathlib.Core.Path.{_∙_, ap}
 use native.Mathlib.Omega.{arith}
+use Rattle.drive.proofs.Checks.{tells-yes, tells-no}
 use Rattle.sound.proofs.Tests.{tested-sound, tested-damaged}
-use Rattle.run.proofs.Seats.{sound-seated}
+use Rattle.run.proofs.Seats.{sound-seated, onward-few, ahead-few}
 use Rattle.scheduler.specs.Answers.{arrived}
+use Rattle.scheduler.proofs.Cycles.{SkippedTo, skips-none, skips-more, skips-found, skips-all}
 use Rattle.scheduler.proofs.Calls.{choose-damaged, choose-busy, choose-empty, choose-idle, choose-next}
 use borrow.Author.Needs.{needs}
 use Rattle.scheduler.proofs.choose.Statement.{statement}
 use Rattle.scheduler.proofs.choose.Tie as tie
 
-test-run-requires : tie.Need-test-run-requires
+abbrev Inv-loop : tie.InvT-loop
+Inv-loop run show playing k₀ k = SkippedTo run k
+
+abbrev μ-loop : tie.MeasureT-loop
+μ-loop run show playing k₀ k = run .show .playing - k
+
+test-run-requires : tie.Need-test-run-requires Inv-loop μ-loop
 test-run-requires c κs = search needs
 
-enum-told : tie.Need-enum-told
+enum-told : tie.Need-enum-told Inv-loop μ-loop
 enum-told c = search needs
 
-enum-told-2 : tie.Need-enum-told-2
+enum-told-2 : tie.Need-enum-told-2 Inv-loop μ-loop
 enum-told-2 c = search needs
 
-returns : tie.Need-returns
+returns : tie.Need-returns Inv-loop μ-loop
 returns c = choose-damaged _ (tested-damaged _ _ (c .before .before .test-run .ensures) (c .enum-told2 .given .1))
 
-enum-told-3 : tie.Need-enum-told-3
+enum-told-3 : tie.Need-enum-told-3 Inv-loop μ-loop
 enum-told-3 c = search needs
 
-enum-told-4 : tie.Need-enum-told-4
+enum-told-4 : tie.Need-enum-told-4 Inv-loop μ-loop
 enum-told-4 c = search needs
 
-returns-2 : tie.Need-returns-2
+returns-2 : tie.Need-returns-2 Inv-loop μ-loop
 returns-2 c = choose-busy _ (tested-sound _ _ (c .before .before .before .before .test-run .ensures) (c .before .before .enum-told .given .1)) _ (c .enum-told4 .given .1)
 
-returns-3 : tie.Need-returns-3
-returns-3 c = choose-empty _ (tested-sound _ _ (c .before .before .before .before .before .before .test-run .ensures) (c .before .before .before .before .enum-told .given .1)) (c .before .before .enum-told3 .given .1) (c .if1 .taken)
+returns-3 : tie.Need-returns-3 Inv-loop μ-loop
+returns-3 c = choose-empty _ (tested-sound _ _ (c .before .before .before .before .before .test-run .ensures) (c .before .before .before .enum-told .given .1)) (c .before .enum-told3 .given .1) (c .if1 .taken)
 
-skips-requires : tie.Need-skips-requires
-skips-requires c κs = (tested-sound _ _ (c .before .before .before .before .before .before .test-run .ensures) (c .before .before .before .before .enum-told .given .1))
+loop-holds : tie.Need-loop-holds Inv-loop μ-loop
+loop-holds c = skips-none _
 
-idle-requires : tie.Need-idle-requires
-idle-requires c κs = sound-seated _ (tested-sound _ _ (c .before .before .before .before .before .before .before .before .test-run .ensures) (c .before .before .before .before .before .before .enum-told .given .1)) (let n = c .before .before .if1 .left in omega arith)
+add-at : tie.Need-add-at Inv-loop μ-loop
+add-at c = let s = sound-seated _ (tested-sound _ _ (c .before .before .before .before .before .before .before .before .test-run .ensures) (c .before .before .before .before .before .before .enum-told .given .1)) (let n = c .before .before .before .if1 .left in omega arith) in let p = s .place in let n = s .some .high in let l = c .loop-test .taken in omega arith
 
-returns-4 : tie.Need-returns-4
-returns-4 c = choose-idle _ (tested-sound _ _ (c .before .before .before .before .before .before .before .before .before .test-run .ensures) (c .before .before .before .before .before .before .before .enum-told .given .1)) (c .before .before .before .before .before .enum-told3 .given .1) (c .before .before .before .if1 .left) _ (let l = c .before .if2 .taken in let e = c .before .before .skips .ensures in omega arith) (c .idle .ensures)
+rem-at : tie.Need-rem-at Inv-loop μ-loop
+rem-at c = let l = c .loop-test .taken in omega arith
 
-arrive-requires : tie.Need-arrive-requires
-arrive-requires c κs = ((tested-sound _ _ (c .before .before .before .before .before .before .before .before .test-run .ensures) (c .before .before .before .before .before .before .enum-told .given .1)), c .if2 .left)
+mul-seat : tie.Need-mul-seat Inv-loop μ-loop
+mul-seat c = let b = onward-few _ (sound-seated _ (tested-sound _ _ (c .before .before .before .before .before .before .before .before .test-run .ensures) (c .before .before .before .before .before .before .enum-told .given .1)) (let n = c .before .before .before .if1 .left in omega arith)) (c .before .loop .k) in omega arith
 
-returns-5 : tie.Need-returns-5
-returns-5 c = choose-next _ (tested-sound _ _ (c .before .before .before .before .before .before .before .before .before .test-run .ensures) (c .before .before .before .before .before .before .before .enum-told .given .1)) (c .before .before .before .before .before .enum-told3 .given .1) (c .before .before .before .if1 .left) _ (let l = c .before .if2 .left in let e = c .before .before .skips .ensures in omega arith) (c .arrive .ensures ∙ ap (arrived _) (c .before .before .skips .ensures))
+element-copy-out-seat : tie.Need-element-copy-out-seat Inv-loop μ-loop
+element-copy-out-seat c = onward-few _ (sound-seated _ (tested-sound _ _ (c .before .before .before .before .before .before .before .before .test-run .ensures) (c .before .before .before .before .before .before .enum-told .given .1)) (let n = c .before .before .before .if1 .left in omega arith)) (c .before .loop .k)
+
+cast-seat : tie.Need-cast-seat Inv-loop μ-loop
+cast-seat c = search needs
+
+mul-room : tie.Need-mul-room Inv-loop μ-loop
+mul-room c = let b = ahead-few _ (sound-seated _ (tested-sound _ _ (c .before .before .before .before .before .before .before .before .before .test-run .ensures) (c .before .before .before .before .before .before .before .enum-told .given .1)) (let n = c .before .before .before .before .if1 .left in omega arith)) (c .before .before .loop .k) in omega arith
+
+element-copy-out-room : tie.Need-element-copy-out-room Inv-loop μ-loop
+element-copy-out-room c = ahead-few _ (sound-seated _ (tested-sound _ _ (c .before .before .before .before .before .before .before .before .before .test-run .ensures) (c .before .before .before .before .before .before .before .enum-told .given .1)) (let n = c .before .before .before .before .if1 .left in omega arith)) (c .before .before .loop .k)
+
+mul-room-2 : tie.Need-mul-room-2 Inv-loop μ-loop
+mul-room-2 c = let b = ahead-few _ (sound-seated _ (tested-sound _ _ (c .before .before .before .before .before .before .before .before .before .before .test-run .ensures) (c .before .before .before .before .before .before .before .before .enum-told .given .1)) (let n = c .before .before .before .before .before .if1 .left in omega arith)) (c .before .before .before .loop .k) in omega arith
+
+element-copy-out-room-2 : tie.Need-element-copy-out-room-2 Inv-loop μ-loop
+element-copy-out-room-2 c = ahead-few _ (sound-seated _ (tested-sound _ _ (c .before .before .before .before .before .before .before .before .before .before .test-run .ensures) (c .before .before .before .before .before .before .before .before .enum-told .given .1)) (let n = c .before .before .before .before .before .if1 .left in omega arith)) (c .before .before .before .loop .k)
+
+room-requires : tie.Need-room-requires Inv-loop μ-loop
+room-requires c κs = search needs
+
+arrive-requires : tie.Need-arrive-requires Inv-loop μ-loop
+arrive-requires c κs = ((tested-sound _ _ (c .before .before .before .before .before .before .before .before .before .before .before .before .before .test-run .ensures) (c .before .before .before .before .before .before .before .before .before .before .before .enum-told .given .1)), c .before .before .before .before .before .loop-test .taken)
+
+returns-4 : tie.Need-returns-4 Inv-loop μ-loop
+returns-4 c =
+    let e = skips-found _ _ (c .before .before .before .before .before .before .before .loop .inv) (c .before .before .before .before .before .before .loop-test .taken) (tells-yes _ (c .before .before .room .result) (c .before .if2 .taken) (c .before .before .room .ensures)) in
+    choose-next _ (tested-sound _ _ (c .before .before .before .before .before .before .before .before .before .before .before .before .before .before .test-run .ensures) (c .before .before .before .before .before .before .before .before .before .before .before .before .enum-told .given .1)) (c .before .before .before .before .before .before .before .before .before .before .enum-told3 .given .1) (c .before .before .before .before .before .before .before .before .before .if1 .left) _ (let l = c .before .before .before .before .before .before .loop-test .taken in omega arith) (c .arrive .ensures ∙ ap (arrived _) e)
+
+add-k : tie.Need-add-k Inv-loop μ-loop
+add-k c = let l = c .before .before .before .before .before .loop-test .taken in omega arith
+
+loop-less : tie.Need-loop-less Inv-loop μ-loop
+loop-less c = let l = c .before .before .before .before .before .loop-test .taken in omega arith
+
+loop-again : tie.Need-loop-again Inv-loop μ-loop
+loop-again c = skips-more _ _ (c .before .before .before .before .before .before .loop .inv) (c .before .before .before .before .before .loop-test .taken) (tells-no _ (c .before .room .result) (c .if2 .left) (c .before .room .ensures))
+
+idle-requires : tie.Need-idle-requires Inv-loop μ-loop
+idle-requires c κs = sound-seated _ (tested-sound _ _ (c .before .before .before .before .before .before .before .before .test-run .ensures) (c .before .before .before .before .before .before .enum-told .given .1)) (let n = c .before .before .before .if1 .left in omega arith)
+
+returns-5 : tie.Need-returns-5 Inv-loop μ-loop
+returns-5 c =
+    let e = skips-all _ _ (c .before .before .loop .inv) (c .before .loop-test .left) in
+    choose-idle _ (tested-sound _ _ (c .before .before .before .before .before .before .before .before .before .test-run .ensures) (c .before .before .before .before .before .before .before .enum-told .given .1)) (c .before .before .before .before .before .enum-told3 .given .1) (c .before .before .before .before .if1 .left) _ (let l = c .before .loop-test .left in omega arith) (c .idle .ensures)
 
 pub choose-spec : {M : Type 1} → statement M
 choose-spec =
     tie.close
     (tie.spec
+    Inv-loop
+    μ-loop
     test-run-requires
     enum-told
     enum-told-2
@@ -60,8 +114,21 @@ choose-spec =
     enum-told-4
     returns-2
     returns-3
-    skips-requires
-    idle-requires
-    returns-4
+    loop-holds
+    add-at
+    rem-at
+    mul-seat
+    element-copy-out-seat
+    cast-seat
+    mul-room
+    element-copy-out-room
+    mul-room-2
+    element-copy-out-room-2
+    room-requires
     arrive-requires
+    returns-4
+    add-k
+    loop-less
+    loop-again
+    idle-requires
     returns-5)

@@ -24,4 +24,12 @@ returns-4 : tie.Need-returns-4
 returns-4 c = search needs
 
 pub rests-spec : {M : Type 1} → statement M
-rests-spec = tie.close (tie.spec returns returns-2 enum-told enum-told-2 returns-3 returns-4)
+rests-spec =
+    tie.close
+    (tie.spec
+    returns
+    returns-2
+    enum-told
+    enum-told-2
+    returns-3
+    returns-4)

@@ -1,4 +1,5 @@
 -- `arrive` begins the read of the session after those skipped. Assumes nothing.
+use mathlib.Core.Path.{refl}
 use native.Mathlib.Omega.{arith}
 use Rattle.run.specs.Seats.{Seated}
 use Rattle.run.proofs.Seats.{sound-seated, onward-few, ahead-few, ahead-put}
@@ -34,26 +35,23 @@ element-copy-out-left-after c = ahead-few _ (seated (c .before)) (c .before .arg
 left-after-requires : tie.Need-left-after-requires
 left-after-requires c κs = search needs
 
-with-cycle-requires : tie.Need-with-cycle-requires
-with-cycle-requires c κs = search needs
-
 mul-state : tie.Need-mul-state
-mul-state c = let b = ahead-few _ (seated (c .before .before .before .before)) (c .before .before .before .before .args .k) in omega arith
+mul-state c = let b = ahead-few _ (seated (c .before .before .before)) (c .before .before .before .args .k) in omega arith
 
 element-copy-out-state : tie.Need-element-copy-out-state
-element-copy-out-state c = ahead-few _ (seated (c .before .before .before .before)) (c .before .before .before .before .args .k)
+element-copy-out-state c = ahead-few _ (seated (c .before .before .before)) (c .before .before .before .args .k)
 
 cast-if1 : tie.Need-cast-if1
 cast-if1 c = search needs
 
 add-if1 : tie.Need-add-if1
-add-if1 c = let p = ahead-put _ (c .before .before .before .before .before .before .pre .0) (seated (c .before .before .before .before .before .before)) (c .before .before .before .before .before .before .args .k) in omega arith
+add-if1 c = let p = ahead-put _ (c .before .before .before .before .before .before .before .before .before .pre .0) (seated (c .before .before .before .before .before .before .before .before .before)) (c .before .before .before .before .before .before .before .before .before .args .k) in omega arith
 
 returns : tie.Need-returns
 returns c = arrives-late _ _ (λ h. let l = c .if1 .taken in let f : ⊥ = omega arith in f)
 
 returns-2 : tie.Need-returns-2
-returns-2 c = arrives _ _ _ _ (c .if1 .left) (c .before .before .before .before .left-after .ensures) (c .before .before .before .with-cycle .ensures)
+returns-2 c = arrives _ _ _ _ (c .if1 .left) (c .before .before .before .before .before .before .before .left-after .ensures) refl
 
 pub arrive-spec : {M : Type 1} → statement M
 arrive-spec =
@@ -67,7 +65,6 @@ arrive-spec =
     mul-left-after
     element-copy-out-left-after
     left-after-requires
-    with-cycle-requires
     mul-state
     element-copy-out-state
     cast-if1

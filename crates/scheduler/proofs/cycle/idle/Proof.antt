@@ -16,11 +16,11 @@ element-copy-out-seat c = search needs
 cast-seat : tie.Need-cast-seat
 cast-seat c = search needs
 
-mul-next : tie.Need-mul-next
-mul-next c = let b = seat-few _ (c .before .pre) _ (c .before .pre .place) in omega arith
+mul-run : tie.Need-mul-run
+mul-run c = let b = seat-few _ (c .before .pre) _ (c .before .pre .place) in omega arith
 
-element-copy-out-next : tie.Need-element-copy-out-next
-element-copy-out-next c = seat-few _ (c .before .pre) _ (c .before .pre .place)
+element-copy-out-run : tie.Need-element-copy-out-run
+element-copy-out-run c = seat-few _ (c .before .pre) _ (c .before .pre .place)
 
 returns : tie.Need-returns
 unfolding idled
@@ -29,4 +29,4 @@ returns c = refl
 pub idle-spec : {M : Type 1} → statement M
 idle-spec =
     tie.close
-    (tie.spec mul-seat element-copy-out-seat cast-seat mul-next element-copy-out-next returns)
+    (tie.spec mul-seat element-copy-out-seat cast-seat mul-run element-copy-out-run returns)

@@ -1,65 +1,128 @@
--- `least` finds the least. Invariant: that of the first k; what falls: playing - k. Assumes nothing.
-use Prim.Native.Nat.{ℕ, _-_, _≤_, _<_}
-use mathlib.Core.Path.{_≡_, sym, ap, _∙_}
+-- `least` finds the least. Invariant: that of the first k places; what falls: playing - k. Assumes nothing.
+use Prim.Native.Nat.{ℕ, _+_, _-_, _<_}
+use mathlib.Core.Path.{_≡_, sym, ap, subst, _∙_}
 use mathlib.Core.Logic.{inl, inr}
+use native.Mathlib.Nat.{lt-of-le-of-lt}
 use native.Mathlib.Omega.{arith}
+use lib.IntN.{ℤ, pos, _-ℤ_}
 use mir.Syntax.{w64}
 use mir.Val.{toZ, ofZ}
-use Rattle.theory.specs.Spare.{leastTo, slackBy}
-use Rattle.theory.proofs.Spare.{least-first, least-less, least-more}
-use Rattle.spare.specs.Standing.{spareIn}
+use mir.Facts.{toZ-ofZ}
+use Rattle.verdict.specs.Answers.{setOf}
+use Rattle.spare.specs.Standing.{placeIn, aheadIn}
 use Rattle.spare.proofs.Orders.{test-less, test-not}
+use Rattle.spare.proofs.Seats.{Seated, seatIn, named-seats, Turned, first-small, next-small, turned-first, turned-less, turned-more, turned-all}
 use Rattle.spare.proofs.standing.least.Tie as tie
 use borrow.Author.Needs.{needs}
 use Rattle.spare.proofs.standing.least.Statement.{statement}
 
 abbrev Inv-loop : tie.InvT-loop
-Inv-loop s least₀ k₀ least k = (0 < k) × (k ≤ s .playing) × (toZ w64 least ≡ leastTo (spareIn s) (k - 1))
+Inv-loop s seats first sum₀ least₀ k₀ sum least k = Turned s seats sum (toZ w64 least) k
 
 abbrev μ-loop : tie.MeasureT-loop
-μ-loop s least₀ k₀ least k = s .playing - k
+μ-loop s seats first sum₀ least₀ k₀ sum least k = s .playing - k
 
-spare-is : (c : tie.After-spare-of2 Inv-loop μ-loop) → toZ w64 (ofZ w64 (c .spare-of2 .result)) ≡ spareIn (c .before .before .before .before .before .args .s) (c .before .before .before .loop .k)
-spare-is c =
-    let b : toZ w64 (ofZ w64 (c .spare-of2 .result)) ≡ c .spare-of2 .result = search needs in
-    b ∙ c .spare-of2 .ensures
+seats : (c : tie.After-ordered Inv-loop μ-loop) → Seated (placeIn (c .before .before .args .t1 .places)) (seatIn (c .ordered .result)) (c .before .before .args .t1 .playing)
+seats c = named-seats (placeIn (c .before .before .args .t1 .places)) (c .before .before .args .t1 .playing) _ (c .before .before .pre .0 .few) (c .before .before .pre .0 .below) (c .before .before .pre .0 .apart) _ (c .ordered .ensures)
 
-spare-of-requires : tie.Need-spare-of-requires Inv-loop μ-loop
-spare-of-requires c κs = (c .pre .0, c .pre .1)
+few : (c : tie.After-ordered Inv-loop μ-loop) (k : ℕ) → k < c .before .before .args .t1 .playing → seatIn (c .ordered .result) k < 16
+few c k l = let i = seats c .inside k l in let f = c .before .before .pre .0 .few in omega arith
+
+seat : (c : tie.In-loop Inv-loop μ-loop) → seatIn (c .before .before .before .before .before .ordered .result) (c .before .loop .k) < 16
+seat c = few (c .before .before .before .before .before) _ (c .loop-test .taken)
+
+ordered-requires : tie.Need-ordered-requires Inv-loop μ-loop
+ordered-requires c κs = (c .before .pre .0 .few, c .before .pre .0 .below)
+
+array-read-first : tie.Need-array-read-first Inv-loop μ-loop
+array-read-first c = search needs
+
+cast-first : tie.Need-cast-first Inv-loop μ-loop
+cast-first c = search needs
+
+mul-sum : tie.Need-mul-sum Inv-loop μ-loop
+mul-sum c = let l = few c 0 (c .before .before .pre .1) in omega arith
+
+element-copy-out-sum : tie.Need-element-copy-out-sum Inv-loop μ-loop
+element-copy-out-sum c = few c 0 (c .before .before .pre .1)
+
+mul-taken : tie.Need-mul-taken Inv-loop μ-loop
+mul-taken c = let l = few (c .before) 0 (c .before .before .before .pre .1) in omega arith
+
+element-copy-out-taken : tie.Need-element-copy-out-taken Inv-loop μ-loop
+element-copy-out-taken c = few (c .before) 0 (c .before .before .before .pre .1)
+
+first-ahead : (c : tie.After-taken-arg Inv-loop μ-loop) → toZ w64 (ofZ w64 (aheadIn (c .before .before .before .before .args .t1 .aheads) (seatIn (c .before .before .ordered .result) 0))) ≡ aheadIn (c .before .before .before .before .args .t1 .aheads) (seatIn (c .before .before .ordered .result) 0)
+first-ahead c = toZ-ofZ (record { sfits = c .taken-arg .given })
+
+taken-requires : tie.Need-taken-requires Inv-loop μ-loop
+taken-requires c κs =
+    let f = c .before .before .before .before .pre .0 in
+    let z = c .before .before .before .before .pre .1 in
+    (rw (first-ahead c) (f .aheads _ (seats (c .before .before) .inside 0 z)), first-small (c .before .before .before .before .args .t1) (c .before .before .ordered .result) (seats (c .before .before)) f z)
 
 loop-holds : tie.Need-loop-holds Inv-loop μ-loop
 loop-holds c =
-    let b : toZ w64 (ofZ w64 (c .spare-of .result)) ≡ c .spare-of .result = search needs in
-    let z = c .before .pre .1 in
-    (omega arith, omega arith, b ∙ c .spare-of .ensures ∙ sym (least-first _))
+    let e : toZ w64 (ofZ w64 (c .taken .result)) ≡ c .taken .result = search needs in
+    turned-first (c .before .before .before .before .before .args .t1) (c .before .before .before .ordered .result) (seats (c .before .before .before)) _ (c .before .before .before .before .before .pre .1) (e ∙ c .taken .ensures ∙ ap (λ (z : ℤ). z -ℤ pos (setOf (c .before .before .before .before .before .args .t1 .times) (seatIn (c .before .before .before .ordered .result) 0))) (first-ahead (c .before)))
 
-spare-of-requires-2 : tie.Need-spare-of-requires-2 Inv-loop μ-loop
-spare-of-requires-2 c κs = (c .before .before .before .before .pre .0, c .if1 .taken)
+mul-i : tie.Need-mul-i Inv-loop μ-loop
+mul-i c = let l = c .loop-test .taken in let f = c .before .before .before .before .before .before .before .pre .0 .few in omega arith
+
+array-read-i : tie.Need-array-read-i Inv-loop μ-loop
+array-read-i c = let l = c .loop-test .taken in let f = c .before .before .before .before .before .before .before .pre .0 .few in omega arith
+
+cast-i : tie.Need-cast-i Inv-loop μ-loop
+cast-i c = search needs
+
+mul-load : tie.Need-mul-load Inv-loop μ-loop
+mul-load c = let l = seat c in omega arith
+
+element-copy-out-load : tie.Need-element-copy-out-load Inv-loop μ-loop
+element-copy-out-load c = seat c
+
+add-load : tie.Need-add-load Inv-loop μ-loop
+add-load c = record { fits = lt-of-le-of-lt (next-small (c .before .before .before .before .before .before .before .before .args .t1) (c .before .before .before .before .before .before .ordered .result) (seats (c .before .before .before .before .before .before)) (c .before .before .before .before .before .before .before .before .pre .0) _ _ (c .before .loop-test .taken) (c .before .before .loop .inv .times)) (omega arith) }
+
+mul-taken-2 : tie.Need-mul-taken-2 Inv-loop μ-loop
+mul-taken-2 c = let l = seat (c .before) in omega arith
+
+element-copy-out-taken-2 : tie.Need-element-copy-out-taken-2 Inv-loop μ-loop
+element-copy-out-taken-2 c = seat (c .before)
+
+next-ahead : (c : tie.After-taken-arg2 Inv-loop μ-loop) → toZ w64 (ofZ w64 (aheadIn (c .before .before .before .before .before .before .before .before .before .args .t1 .aheads) (seatIn (c .before .before .before .before .before .before .before .ordered .result) (c .before .before .before .loop .k)))) ≡ aheadIn (c .before .before .before .before .before .before .before .before .before .args .t1 .aheads) (seatIn (c .before .before .before .before .before .before .before .ordered .result) (c .before .before .before .loop .k))
+next-ahead c = toZ-ofZ (record { sfits = c .taken-arg2 .given })
+
+taken-requires-2 : tie.Need-taken-requires-2 Inv-loop μ-loop
+taken-requires-2 c κs =
+    let f = c .before .before .before .before .before .before .before .before .before .pre .0 in
+    let l = c .before .before .loop-test .taken in
+    (rw (next-ahead c) (f .aheads _ (seats (c .before .before .before .before .before .before .before) .inside _ l)), next-small (c .before .before .before .before .before .before .before .before .before .args .t1) (c .before .before .before .before .before .before .before .ordered .result) (seats (c .before .before .before .before .before .before .before)) f _ _ l (c .before .before .before .loop .inv .times))
+
+spare-is : (c : tie.After-taken2 Inv-loop μ-loop) → toZ w64 (ofZ w64 (c .taken2 .result)) ≡ aheadIn (c .before .before .before .before .before .before .before .before .before .before .args .t1 .aheads) (seatIn (c .before .before .before .before .before .before .before .before .ordered .result) (c .before .before .before .before .loop .k)) -ℤ pos (c .before .before .before .before .loop .sum + setOf (c .before .before .before .before .before .before .before .before .before .before .args .t1 .times) (seatIn (c .before .before .before .before .before .before .before .before .ordered .result) (c .before .before .before .before .loop .k)))
+spare-is c =
+    let e : toZ w64 (ofZ w64 (c .taken2 .result)) ≡ c .taken2 .result = search needs in
+    e ∙ c .taken2 .ensures ∙ ap (λ (z : ℤ). z -ℤ pos (c .before .before .before .before .loop .sum + setOf (c .before .before .before .before .before .before .before .before .before .before .args .t1 .times) (seatIn (c .before .before .before .before .before .before .before .before .ordered .result) (c .before .before .before .before .loop .k)))) (next-ahead (c .before))
 
 add-k : tie.Need-add-k Inv-loop μ-loop
-add-k c = let l = c .before .before .if1 .taken in let f = c .before .before .before .before .before .before .pre .0 .few in omega arith
+add-k c = let l = c .before .before .before .before .loop-test .taken in let f = c .before .before .before .before .before .before .before .before .before .before .before .pre .0 .few in omega arith
 
 loop-less : tie.Need-loop-less Inv-loop μ-loop
-loop-less c = let l = c .before .before .if1 .taken in omega arith
+loop-less c = let l = c .before .before .before .before .loop-test .taken in omega arith
 
 loop-again : tie.Need-loop-again Inv-loop μ-loop
 loop-again c =
-    let f = spareIn (c .before .before .before .before .before .before .args .s) in
-    let k = c .before .before .before .before .loop .k in
-    let l = c .before .before .if1 .taken in
-    let z = c .before .before .before .before .loop .inv .0 in
-    let v = c .before .before .before .before .loop .inv .2 in
-    let t = spare-is (c .before) in
-    elim (c .if2 .came) [
-      | inl w ↦ (omega arith, omega arith, ap (toZ w64) (w .1) ∙ t ∙ sym (least-less f k z (test-less (rw (t, v) at (w .0 .taken)))))
-      | inr w ↦ (omega arith, omega arith, ap (toZ w64) (w .1) ∙ v ∙ sym (least-more f k z (test-not (rw (t, v) at (w .0 .left)))))
+    elim (c .if1 .came) [
+      | inl w ↦
+          subst (λ (x : ℕ). Turned (c .before .before .before .before .before .before .before .before .before .before .before .args .t1) (c .before .before .before .before .before .before .before .before .before .ordered .result) (c .before .before .before .before .before .loop .sum + setOf (c .before .before .before .before .before .before .before .before .before .before .before .args .t1 .times) (seatIn (c .before .before .before .before .before .before .before .before .before .ordered .result) (c .before .before .before .before .before .loop .k))) (toZ w64 x) (c .before .before .before .before .before .loop .k + 1)) (sym (w .1))
+          (turned-less (c .before .before .before .before .before .before .before .before .before .before .before .args .t1) (c .before .before .before .before .before .before .before .before .before .ordered .result) (seats (c .before .before .before .before .before .before .before .before .before)) _ _ _ _ (c .before .before .before .before .before .loop .inv) (c .before .before .before .before .loop-test .taken) (spare-is (c .before)) (test-less (w .0 .taken)))
+      | inr w ↦
+          subst (λ (x : ℕ). Turned (c .before .before .before .before .before .before .before .before .before .before .before .args .t1) (c .before .before .before .before .before .before .before .before .before .ordered .result) (c .before .before .before .before .before .loop .sum + setOf (c .before .before .before .before .before .before .before .before .before .before .before .args .t1 .times) (seatIn (c .before .before .before .before .before .before .before .before .before .ordered .result) (c .before .before .before .before .before .loop .k))) (toZ w64 x) (c .before .before .before .before .before .loop .k + 1)) (sym (w .1))
+          (turned-more (c .before .before .before .before .before .before .before .before .before .before .before .args .t1) (c .before .before .before .before .before .before .before .before .before .ordered .result) (seats (c .before .before .before .before .before .before .before .before .before)) _ _ _ _ (c .before .before .before .before .before .loop .inv) (c .before .before .before .before .loop-test .taken) (spare-is (c .before)) (test-not (w .0 .left)))
     ]
 
 returns : tie.Need-returns Inv-loop μ-loop
-unfolding slackBy
-returns c =
-    let e : c .before .before .loop .k ≡ c .before .before .before .before .args .s .playing = (let l = c .if1 .left in let h = c .before .before .loop .inv .1 in omega arith) in
-    c .before .before .loop .inv .2 ∙ ap (λ (k : ℕ). leastTo (spareIn (c .before .before .before .before .args .s)) (k - 1)) e
+returns c = turned-all _ _ (seats (c .before .before .before .before .before)) _ _ _ (c .before .loop .inv) (c .loop-test .left)
 
 pub least-spec : {M : Type 1} → statement M
 least-spec =
@@ -67,9 +130,24 @@ least-spec =
     (tie.spec
     Inv-loop
     μ-loop
-    spare-of-requires
+    ordered-requires
+    array-read-first
+    cast-first
+    mul-sum
+    element-copy-out-sum
+    mul-taken
+    element-copy-out-taken
+    taken-requires
     loop-holds
-    spare-of-requires-2
+    mul-i
+    array-read-i
+    cast-i
+    mul-load
+    element-copy-out-load
+    add-load
+    mul-taken-2
+    element-copy-out-taken-2
+    taken-requires-2
     add-k
     loop-less
     loop-again
