@@ -62,6 +62,18 @@ decimal-more n b h =
     digits-more 19 n (λ l. (let f : ⊥ = omega arith in f))
     ∙ ap (λ (x : List ℕ). x ++ ((48 + n % 10) ∷ [])) (digits-enough 18 (n / 10) (tenth 19 n (omega arith)))
 
+-- a digit less, of a tenth
+pub one-less : (n : ℕ) → n < 2 ^ 64 → 10 ≤ n → length (decimal n) ≡ length (decimal (n / 10)) + 1
+one-less n b h = ap length (decimal-more n b h) ∙ length-append (decimal (n / 10)) ((48 + n % 10) ∷ [])
+
+pub decimal-least : (n : ℕ) → 1 ≤ length (decimal n)
+unfolding decimal
+decimal-least n = from (decLt n 10)
+  where
+    from : Dec (n < 10) → 1 ≤ length (digits 20 n)
+    from (yes l) = rw (digits-last 19 n l) (omega arith)
+    from (no l) = rw (digits-more 19 n l) (simp length-append (omega arith))
+
 pub decimal-few : (k n : ℕ) → n < 10 ^ suc k → length (decimal n) ≤ suc k
 unfolding decimal
 decimal-few k n h = digits-few 20 k n h (decLt n 10)

@@ -1,13 +1,14 @@
 -- Laws of text put into a buffer: what the calls answer, and piece after piece. Assumes nothing.
 use mathlib.Core.Path.{_≡_, refl, sym, ap, subst, _∙_}
-use mathlib.Core.List.{List, [], _∷_, _++_}
+use mathlib.Core.List.{List, [], _∷_, _++_, append-assoc}
 use mathlib.Core.Logic.{if-pos, if-neg}
-use Prim.Native.Nat.{ℕ, _+_, _≤_, _<_}
+use Prim.Native.Nat.{ℕ, suc, _+_, _≤_, _<_}
 use native.Mathlib.Nat.{add-zero, le-refl}
 use native.Mathlib.Numerals.{add-one}
 use native.Mathlib.Decide.{decLe, le-ind}
 use native.Mathlib.Omega.{arith}
-use lib.ListN.{length, set, length-append}
+use lib.ListN.{length, take, drop, set, length-append, length-take}
+use lib.Seq.{take-set-le, set-split, drop-at}
 use Rattle.showfile.specs.Bytes.{over}
 use Rattle.showfile.proofs.ByteLaws.{one-over, over-nothing, over-then}
 use Rattle.text.specs.Puts.{putOver, putTo, Room, Put}
@@ -46,6 +47,18 @@ put-none was at = record { bytes = over-nothing was at; upto = sym (add-zero at)
 
 pub put-one : (was : List ℕ) (at b : ℕ) → Room was at (b ∷ []) → Put was at (b ∷ []) (set was at b) (at + 1)
 put-one was at b room = record { bytes = one-over was at b (room .fits); upto = refl }
+
+-- a byte stored behind a text that is then put is part of it
+pub over-behind :
+    (b : List ℕ) (at : ℕ) (t : List ℕ) (d : ℕ) → at + length t < length b → over (set b (at + length t) d) at t ≡ over b at (t ++ (d ∷ []))
+unfolding over
+over-behind b at t d h =
+    let k = at + length t in
+    let first : take at (set b k d) ≡ take at b = take-set-le at b k d (omega arith) in
+    let then : drop k (set b k d) ≡ d ∷ drop (suc k) b =
+    rw (set-split b k d h) (drop-at (take k b) (d ∷ drop (suc k) b) k (simp length-take (omega arith))) in
+    let next : at + length (t ++ (d ∷ [])) ≡ suc k = simp length-append (omega arith) in
+    rw (first, then, next) (simp append-assoc)
 
 -- the same text by another name
 pub put-as : {was after t u : List ℕ} {at next : ℕ} → t ≡ u → Put was at t after next → Put was at u after next

@@ -2,7 +2,7 @@
 // changes, and it answers the place that was given.
 ghost use mathlib.Core.Path.{_≡_};
 ghost use mathlib.Core.List.{_∷_, _++_, []};
-ghost use Prim.Native.Nat.{_+_, _≤_};
+ghost use Prim.Native.Nat.{_+_, _≤_, _<_};
 ghost use lib.ListN.{length};
 ghost use Rattle.drive.specs.Limits.{Tells};
 ghost use Rattle.text.specs.Decimal.{decimal};
@@ -29,7 +29,7 @@ pub fn put_numbered(out: &mut [u8], at: usize, before: &[u8], n: u64, after: &[u
         return at;
     }
     let number = put_bytes(out, at, before);
-    let end = put_decimal(out, number, n);
+    let end = put_decimal(out, number, digits, n);
     put_bytes(out, end, after)
 }
 
@@ -54,17 +54,33 @@ fn fits(len: usize, at: usize, first: usize, second: usize, third: usize) -> boo
     true
 }
 
-// How many digits a number has.
+// How many digits a number has: four at a time, since a division is dear.
 fn width(n: u64) -> usize
     ensures { λ r. ⌜ r ≡ length (decimal n) ⌝ }
 {
     let mut left = n;
-    let mut digits = 1;
-    while left >= 10 {
-        left = left / 10;
-        digits += 1;
+    let mut digits = 0;
+    while left >= 10000 {
+        left = left / 10000;
+        digits += 4;
     }
-    digits
+    digits + short_width(left)
+}
+
+fn short_width(n: u64) -> usize
+    requires { ⌜ n < 10000 ⌝ }
+    ensures { λ r. ⌜ r ≡ length (decimal n) ⌝ }
+{
+    if n < 10 {
+        return 1;
+    }
+    if n < 100 {
+        return 2;
+    }
+    if n < 1000 {
+        return 3;
+    }
+    4
 }
 
 fn put_byte(out: &mut [u8], at: usize, b: u8) -> usize
@@ -89,13 +105,20 @@ fn put_bytes(out: &mut [u8], at: usize, word: &[u8]) -> usize
     next
 }
 
-fn put_decimal(out: &mut [u8], at: usize, n: u64) -> usize
+// The digits of a number, backwards from where they end.
+fn put_decimal(out: &mut [u8], at: usize, digits: usize, n: u64) -> usize
     requires { ⌜ Room (now out) at (decimal n) ⌝ }
+    requires { ⌜ digits ≡ length (decimal n) ⌝ }
     ensures { λ r. ⌜ Put (now (out .entry)) at (decimal n) (now (out .exit)) r ⌝ }
 {
-    if n < 10 {
-        return put_byte(out, at, b'0' + n as u8);
+    let end = at + digits;
+    let mut last = end - 1;
+    let mut left = n;
+    while left >= 10 {
+        out[last] = b'0' + (left % 10) as u8;
+        left = left / 10;
+        last -= 1;
     }
-    let last = put_decimal(out, at, n / 10);
-    put_byte(out, last, b'0' + (n % 10) as u8)
+    out[last] = b'0' + left as u8;
+    end
 }

@@ -51,7 +51,9 @@ room-number : (c : tie.After-put-bytes) → Room (c .put-bytes .last .0) (c .put
 room-number c = room-then (front (c .before .before .before .before .before .before .before .before)) (rest (c .before .before .before .before .before .before .before .before)) (room (c .before .before)) (c .put-bytes .ensures) (c .put-bytes .kept .0)
 
 put-decimal-requires : tie.Need-put-decimal-requires
-put-decimal-requires c κs = room-first (decimal (c .before .before .before .before .before .before .before .before .before .before .before .args .n)) (c .before .before .before .before .before .before .before .before .before .before .before .args .after .now) (room-number (c .before .before .before))
+put-decimal-requires c κs =
+    let a = c .before .before .before .before .before .before .before .before .before .before .before .args in
+    (room-first (decimal (a .n)) (a .after .now) (room-number (c .before .before .before)), c .before .before .before .before .before .before .before .width .ensures)
 
 put-bytes-requires-2 : tie.Need-put-bytes-requires-2
 put-bytes-requires-2 c κs =

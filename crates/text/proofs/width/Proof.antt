@@ -1,33 +1,35 @@
--- A digit a turn: with those that are left there is one too many, since the last is counted from the start. The measure is what is left
--- of the number. Assumes nothing.
+-- Four digits a turn: with those that are left, all are counted. The measure is what is left of the number. Assumes nothing.
 use mathlib.Core.Path.{_≡_, ap, _∙_}
-use mathlib.Core.List.{[], _∷_}
-use Prim.Native.Nat.{ℕ, _+_, _/_, _%_, _^_, _≤_, _<_}
-use native.Mathlib.Nat.{div-lt-self}
+use Prim.Native.Nat.{ℕ, _+_, _/_, _^_, _≤_, _<_}
+use native.Mathlib.Nat.{div-lt-self, div-div-eq-div-mul}
 use native.Mathlib.Omega.{arith}
 use lib.Dec.{lit<}
-use lib.ListN.{length, length-append}
+use lib.ListN.{length}
 use Rattle.text.specs.Decimal.{decimal}
-use Rattle.text.proofs.Digits.{decimal-last, decimal-more, decimal-most}
+use Rattle.text.proofs.Digits.{decimal-most, one-less}
 use Rattle.text.proofs.width.Statement.{statement}
 use Rattle.text.proofs.width.Tie as tie
 
 record SoFar (n left digits : ℕ) : Type 0 where
   narrow : left < 2 ^ 64
-  so-far : digits + length (decimal left) ≡ length (decimal n) + 1
+  so-far : digits + length (decimal left) ≡ length (decimal n)
 
-one-less : (n : ℕ) → n < 2 ^ 64 → 10 ≤ n → length (decimal n) ≡ length (decimal (n / 10)) + 1
-one-less n b h = ap length (decimal-more n b h) ∙ length-append (decimal (n / 10)) ((48 + n % 10) ∷ [])
+four-less : (n : ℕ) → n < 2 ^ 64 → 10000 ≤ n → length (decimal n) ≡ length (decimal (n / 10000)) + 4
+four-less n b h =
+    let e : n / 10 / 10 / 10 / 10 ≡ n / 10000 =
+    div-div-eq-div-mul (n / 10 / 10) 10 10 ∙ div-div-eq-div-mul (n / 10) 10 100 ∙ div-div-eq-div-mul n 10 1000 in
+    let first = one-less n b (omega arith) in
+    let second = one-less (n / 10) (omega arith) (omega arith) in
+    let third = one-less (n / 10 / 10) (omega arith) (omega arith) in
+    let fourth = one-less (n / 10 / 10 / 10) (omega arith) (omega arith) in
+    omega (arith, ap (λ (k : ℕ). length (decimal k)) e)
 
-body : (n left digits : ℕ) → SoFar n left digits → 10 ≤ left → SoFar n (left / 10) (digits + 1)
+body : (n left digits : ℕ) → SoFar n left digits → 10000 ≤ left → SoFar n (left / 10000) (digits + 4)
 body n left digits h g =
-    let e = one-less left (h .narrow) g in
+    let e = four-less left (h .narrow) g in
     let s = h .so-far in
     let b = h .narrow in
-    record { narrow = (let d = div-lt-self {n = left} {k = 10} (omega arith) (lit< tt) in omega arith); so-far = omega arith }
-
-ended : (n left digits : ℕ) → SoFar n left digits → left < 10 → digits ≡ length (decimal n)
-ended n left digits h g = let s = h .so-far in omega (arith, ap length (decimal-last left g))
+    record { narrow = (let d = div-lt-self {n = left} {k = 10000} (omega arith) (lit< tt) in omega arith); so-far = omega arith }
 
 abbrev Inv-loop : tie.InvT-loop
 Inv-loop n left₀ digits₀ left digits = SoFar n left digits
@@ -47,9 +49,26 @@ loop-less c = div-lt-self (omega arith) (lit< tt)
 loop-again : tie.Need-loop-again Inv-loop μ-loop
 loop-again c = body _ _ _ (c .before .loop .inv) (omega arith)
 
+short-width-requires : tie.Need-short-width-requires Inv-loop μ-loop
+short-width-requires c κs = omega arith
+
+add-result : tie.Need-add-result Inv-loop μ-loop
+add-result c =
+    record { fits = (let s = c .before .before .loop .inv .so-far in omega (arith, c .short-width .ensures, decimal-most (c .before .before .before .args .n))) }
+
 returns : tie.Need-returns Inv-loop μ-loop
-returns c = ended _ _ _ (c .before .loop .inv) (omega arith)
+returns c = let s = c .before .before .loop .inv .so-far in omega (arith, c .short-width .ensures)
 
 pub width-spec : {M : Type 1} → statement M
 width-spec =
-    tie.close (tie.spec Inv-loop μ-loop loop-holds add-digits loop-less loop-again returns)
+    tie.close
+    (tie.spec
+    Inv-loop
+    μ-loop
+    loop-holds
+    add-digits
+    loop-less
+    loop-again
+    short-width-requires
+    add-result
+    returns)
