@@ -8,6 +8,7 @@ use Rattle.report.proofs.Texts.{text-once}
 use Rattle.report.proofs.Reports.{report-once}
 use Rattle.explain.proofs.Texts.{said-once}
 use Rattle.explain.proofs.Explained.{explain-once}
+use Rattle.embed.proofs.Once.{reported-once, decided-once, reasoned-once}
 use Rattle.promises.specs.Demands.{Demands}
 use Rattle.promises.proofs.Table.{table}
 use Rattle.promises.proofs.Trips.{trips}
@@ -22,13 +23,15 @@ use Rattle.promises.proofs.Says.{numbered}
 use Rattle.promises.proofs.Answered.{answered}
 use Rattle.promises.proofs.Order.{order}
 use Rattle.promises.proofs.Refusals.{buffers, empty}
+use Rattle.promises.proofs.Embedded.{embedded}
 use Rattle.promises.proofs.SpareTime.{spare-time}
 use Rattle.promises.proofs.Unseen.{unseen}
 
 pub demands : Demands
 demands =
     record {
-      first = record { answered = answered; numbered = numbered; order = order; runs = hands-back; buffers = buffers; empty = empty };
+      first =
+          record { answered = answered; numbered = numbered; order = order; runs = hands-back; buffers = buffers; empty = empty; embedded = embedded };
       second =
           record { verdicts = verdicts; runs = runs; unseen = unseen; spare = spare-time; table = table; reports = reports; reasons = reasons; sayings = sayings; trips = trips };
       third = record { lighter = lighter-shows; spare = spare };
@@ -44,5 +47,8 @@ demands =
             reason = reason-once;
             explain = explain-once;
             said = said-once;
+            reported = reported-once;
+            decided = decided-once;
+            reasoned = reasoned-once;
           };
     }

@@ -16,4 +16,5 @@ pub mod SpareTime
 pub mod Answered
 pub mod Alike
 pub mod Unseen
+pub mod Embedded
 pub mod Demands

@@ -16,6 +16,7 @@ use Rattle.reason.specs.declared.Reason.{Reason}
 use Rattle.reason.specs.Answers.{ReasonIs}
 use Rattle.report.specs.Answers.{TextIs, ReportIs}
 use Rattle.explain.specs.Answers.{SaidIs, ExplainIs}
+use Rattle.embed.specs.Answers.{Slices, ReportedIs, DecidedIs, ReasonedIs}
 use Rattle.promises.specs.Numbers.{Table}
 use Rattle.promises.specs.Files.{Trips}
 use Rattle.promises.specs.Verdict.{Verdicts}
@@ -26,6 +27,7 @@ use Rattle.promises.specs.Sayings.{Sayings}
 use Rattle.promises.specs.Runs.{HandsBack, Runs}
 use Rattle.promises.specs.Answered.{Answered}
 use Rattle.promises.specs.Refusals.{Numbered, Order, Buffers, Empty}
+use Rattle.promises.specs.Embedded.{Embedded}
 use Rattle.promises.specs.SpareTime.{SpareTime}
 use Rattle.promises.specs.Unseen.{Unseen}
 
@@ -43,6 +45,8 @@ pub record First : Type 0 where
   pub buffers : Buffers
   -- (Reading, deciding and opening are given no run: refused, they answer number and place, all else zero or empty.)
   pub empty : Empty
+  -- (The same of the calls for C.)
+  pub embedded : Embedded
 
 -- Demand 2.
 pub record Second : Type 0 where
@@ -91,6 +95,10 @@ pub record Once : Type 1 where
   pub text : (f t u : List ℕ) → TextIs f t → TextIs f u → t ≡ u
   pub explain : (f b : List ℕ) (r s : Written) (x y : List ℕ) → ExplainIs f b r x → ExplainIs f b s y → (r ≡ s) × (x ≡ y)
   pub said : (f t u : List ℕ) → SaidIs f t → SaidIs f u → t ≡ u
+  -- `chikchiro_report`, `chikchiro_decide`, `chikchiro_reason`, in what they answer and in every place of the slices
+  pub reported : (f b : List ℕ) (m n : ℕ) (x y : List ℕ) → ReportedIs f b m x → ReportedIs f b n y → (m ≡ n) × (x ≡ y)
+  pub decided : (f : List ℕ) (b : Slices) (m n : ℕ) (x y : Slices) → DecidedIs f b m x → DecidedIs f b n y → (m ≡ n) × (x ≡ y)
+  pub reasoned : (f b : List ℕ) (m n : ℕ) (x y : List ℕ) → ReasonedIs f b m x → ReasonedIs f b n y → (m ≡ n) × (x ≡ y)
 
 pub record Demands : Type 1 where
   pub first : First

@@ -10,4 +10,5 @@ pub mod Sayings
 pub mod SpareTime
 pub mod Answered
 pub mod Unseen
+pub mod Embedded
 pub mod Demands

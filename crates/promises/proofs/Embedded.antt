@@ -1,0 +1,206 @@
+-- The calls for C. Assumes nothing.
+use Prim.Native.Nat.{ℕ, _/_, _%_, _≤_, _<_}
+use mathlib.Core.Path.{_≡_, refl, sym, ap, subst, _∙_}
+use mathlib.Core.List.{List, [], _∷_}
+use mathlib.Core.Logic.{_↔_, inl, inr, Dec·and}
+use native.Mathlib.Decide.{decLe}
+use native.Mathlib.Omega.{arith}
+use lib.ListN.{length, length-append}
+use Rattle.drive.specs.declared.refusal.Refusal.{Refusal}
+use Rattle.drive.specs.declared.refusal.Refusal.the-variants.{NoSet, BufferShort}
+use Rattle.drive.specs.declared.refusal.Check.{Check}
+use Rattle.drive.specs.declared.refusal.Check.the-variants as check
+use Rattle.drive.specs.Refusals.{numberOf, placeOf}
+use Rattle.drive.specs.Decisions.{decided}
+use Rattle.showfile.specs.Answers.{readOf}
+use Rattle.verdict.specs.declared.Decision.{Decision}
+use Rattle.verdict.specs.declared.Verdict.{Verdict}
+use Rattle.verdict.specs.declared.Verdict.the-variants as verdict
+use Rattle.verdict.specs.Answers.{refusedFor}
+use Rattle.verdict.proofs.Decisions.{accepted-refused}
+use Rattle.reason.specs.declared.Reason.{Reason}
+use Rattle.reason.specs.declared.Reason.the-variants as reason
+use Rattle.reason.proofs.Once.{reason-given}
+use Rattle.text.specs.Ascii.{ascii}
+use Rattle.text.specs.Lines.{twoLine, refusedText}
+use Rattle.text.specs.Told.{told, short}
+use Rattle.text.proofs.Lines.{two-length}
+use Rattle.theory.specs.Counts.{roundTime}
+use Rattle.report.specs.Text.{sessionLines}
+use Rattle.report.specs.Answers.{TextIs, granted, eight, unread, loadIn, textMost}
+use Rattle.embed.specs.Answers.{codeOf, verdictCode, filledBy, Slices, Enough, ReportedIs, reported, FileDecisionIs, DecidedIs, FileReasonIs, ReasonedIs, reasonCode, reasonOver}
+use Rattle.embed.specs.Answers as answers
+use Rattle.promises.specs.Refusals.{OneOf, Says}
+use Rattle.promises.specs.Embedded.{Embedded}
+use Rattle.promises.proofs.Answered.{answered}
+use Rattle.promises.proofs.Order.{order}
+use Rattle.promises.proofs.Says.{numbered, same-verdict, one-more}
+
+-- ---- one number
+
+code-number : (w : Refusal) → codeOf w % 256 ≡ numberOf w
+code-number w = let n = numbered .number w in omega arith
+
+code-place : (w : Refusal) → codeOf w / 256 ≡ placeOf w
+code-place w = let n = numbered .number w in omega arith
+
+code-some : (w : Refusal) → codeOf w ≡ 0 → ⊥
+code-some w e = let n = numbered .number w in omega arith
+
+same-number : (v w : Refusal) → codeOf v ≡ codeOf w → numberOf v ≡ numberOf w
+same-number v w e = sym (code-number v) ∙ ap (λ (n : ℕ). n % 256) e ∙ code-number w
+
+yes-alone : (v : Verdict) → (verdictCode v ≡ 0) ↔ (v ≡ verdict.Accepted)
+yes-alone verdict.Accepted = (λ e. refl, λ e. refl)
+yes-alone (verdict.Refused w) = (λ e. absurd (code-some w e), λ e. accepted-refused e)
+
+-- ---- answers
+
+enough? : (b : Slices) → Dec (Enough b)
+enough? b =
+    decided (λ h. record { counts = h .0; times = h .1 .0; round = h .1 .1 }) (λ h. (h .counts, (h .times, h .round)))
+    (Dec·and (decLe 16 (length (b .counts))) (Dec·and (decLe 16 (length (b .times))) (decLe 1 (length (b .round)))))
+
+module _ (f : List ℕ) where
+  file-decided : (d : Decision) × FileDecisionIs f d
+  file-decided = from (readOf f .check) refl
+    where
+      from : (k : Check) → readOf f .check ≡ k → (d : Decision) × FileDecisionIs f d
+      from check.Within e = let d = answered .deciding (readOf f .show) in (d .0, answers.read (d .0) e (d .1))
+      from (check.Refused w) e = (refusedFor w, answers.unread w e)
+
+  file-reasoned : (r : Reason) × FileReasonIs f r
+  file-reasoned = from (readOf f .check) refl
+    where
+      from : (k : Check) → readOf f .check ≡ k → (r : Reason) × FileReasonIs f r
+      from check.Within e = let r = reason-given (readOf f .show) in (r .0, answers.read (r .0) e (r .1))
+      from (check.Refused w) e = (reason.Refused w, answers.unread w e)
+
+  decides : (b : Slices) → (r : ℕ) × ((x : Slices) × DecidedIs f b r x)
+  decides b = from (enough? b)
+    where
+      from : Dec (Enough b) → (r : ℕ) × ((x : Slices) × DecidedIs f b r x)
+      from (no n) = (codeOf BufferShort, (b, answers.short n))
+      from (yes h) =
+          let d = file-decided in
+          (verdictCode (d .0 .verdict), (filledBy (d .0 .verdict) (d .0) b, answers.decided (d .0) h (d .1)))
+
+  reasons : (b : List ℕ) → (r : ℕ) × ((x : List ℕ) × ReasonedIs f b r x)
+  reasons b = from (decLe 3 (length b))
+    where
+      from : Dec (3 ≤ length b) → (r : ℕ) × ((x : List ℕ) × ReasonedIs f b r x)
+      from (no n) = (codeOf BufferShort, (b, answers.short n))
+      from (yes h) = let p = file-reasoned in (reasonCode (p .0), (reasonOver (p .0) b, answers.reasoned (p .0) h (p .1)))
+
+-- ---- the numbers that are said
+
+-- those of deciding are among those of a file
+among : (n : ℕ) → OneOf (2 ∷ 5 ∷ 6 ∷ 7 ∷ 8 ∷ []) n → OneOf (1 ∷ 2 ∷ 3 ∷ 4 ∷ 5 ∷ 6 ∷ 7 ∷ 8 ∷ []) n
+among n (inl e) = inr (inl e)
+among n (inr (inl e)) = inr (inr (inr (inr (inl e))))
+among n (inr (inr (inl e))) = inr (inr (inr (inr (inr (inl e)))))
+among n (inr (inr (inr (inl e)))) = inr (inr (inr (inr (inr (inr (inl e))))))
+among n (inr (inr (inr (inr (inl e))))) = inr (inr (inr (inr (inr (inr (inr (inl e)))))))
+
+of-file : (f : List ℕ) (d : Decision) → FileDecisionIs f d → Says verdict.Refused (d .verdict) (1 ∷ 2 ∷ 3 ∷ 4 ∷ 5 ∷ 6 ∷ 7 ∷ 8 ∷ [])
+of-file f d (answers.read _ e h) w p = among (numberOf w) (order .deciding (readOf f .show) d h w p)
+of-file f d (answers.unread v e) w p =
+    one-more (1 ∷ 2 ∷ 3 ∷ 4 ∷ 5 ∷ 6 ∷ 7 ∷ []) (8 ∷ []) (numberOf w) (order .reading f w (e ∙ ap check.Refused (same-verdict p)))
+
+decided-by :
+    (f : List ℕ) (d : Decision) (v : Verdict) → d .verdict ≡ v → FileDecisionIs f d → (w : Refusal) → verdictCode v ≡ codeOf w →
+    OneOf (1 ∷ 2 ∷ 3 ∷ 4 ∷ 5 ∷ 6 ∷ 7 ∷ 8 ∷ []) (numberOf w)
+decided-by f d verdict.Accepted p h w e = absurd (code-some w (sym e))
+decided-by f d (verdict.Refused v) p h w e = subst (OneOf (1 ∷ 2 ∷ 3 ∷ 4 ∷ 5 ∷ 6 ∷ 7 ∷ 8 ∷ [])) (same-number v w e) (of-file f d h v p)
+
+says-deciding :
+    (f : List ℕ) (b : Slices) (r : ℕ) (x : Slices) → DecidedIs f b r x → (w : Refusal) → r ≡ codeOf w →
+    OneOf (16 ∷ 1 ∷ 2 ∷ 3 ∷ 4 ∷ 5 ∷ 6 ∷ 7 ∷ 8 ∷ []) (numberOf w)
+says-deciding f b r x (answers.short n) w e = inl (sym (same-number BufferShort w e))
+says-deciding f b r x (answers.decided d h k) w e = inr (decided-by f d (d .verdict) refl k w e)
+
+-- those of the reason are among those of a file too
+reason-among : (n : ℕ) → OneOf (2 ∷ 5 ∷ 6 ∷ 7 ∷ []) n → OneOf (1 ∷ 2 ∷ 3 ∷ 4 ∷ 5 ∷ 6 ∷ 7 ∷ []) n
+reason-among n (inl e) = inr (inl e)
+reason-among n (inr (inl e)) = inr (inr (inr (inr (inl e))))
+reason-among n (inr (inr (inl e))) = inr (inr (inr (inr (inr (inl e)))))
+reason-among n (inr (inr (inr (inl e)))) = inr (inr (inr (inr (inr (inr (inl e))))))
+
+reason-of-file : (f : List ℕ) (p : Reason) → FileReasonIs f p → Says reason.Refused p (1 ∷ 2 ∷ 3 ∷ 4 ∷ 5 ∷ 6 ∷ 7 ∷ [])
+reason-of-file f p (answers.read _ e h) w q = reason-among (numberOf w) (order .why (readOf f .show) p h w q)
+reason-of-file f p (answers.unread v e) w q = order .reading f w (e ∙ ap check.Refused (let same : v ≡ w = cc in same))
+
+reasoned-by :
+    (f : List ℕ) (p q : Reason) → p ≡ q → FileReasonIs f p → (w : Refusal) → reasonCode q ≡ codeOf w →
+    OneOf (1 ∷ 2 ∷ 3 ∷ 4 ∷ 5 ∷ 6 ∷ 7 ∷ []) (numberOf w)
+reasoned-by f p reason.None k h w e = absurd (code-some w (sym e))
+reasoned-by f p reason.Overload k h w e = absurd (code-some w (sym e))
+reasoned-by f p reason.Beyond k h w e = absurd (code-some w (sym e))
+reasoned-by f p (reason.Buffer i size) k h w e = absurd (code-some w (sym e))
+reasoned-by f p (reason.Refused v) k h w e = subst (OneOf (1 ∷ 2 ∷ 3 ∷ 4 ∷ 5 ∷ 6 ∷ 7 ∷ [])) (same-number v w e) (reason-of-file f p h v k)
+
+says-reasoning :
+    (f b : List ℕ) (r : ℕ) (x : List ℕ) → ReasonedIs f b r x → (w : Refusal) → r ≡ codeOf w →
+    OneOf (16 ∷ 1 ∷ 2 ∷ 3 ∷ 4 ∷ 5 ∷ 6 ∷ 7 ∷ []) (numberOf w)
+says-reasoning f b r x (answers.short n) w e = inl (sym (same-number BufferShort w e))
+says-reasoning f b r x (answers.reasoned p h k) w e = inr (reasoned-by f p p refl k w e)
+
+-- ---- what is left
+
+kept-by : (v : Verdict) (d : Decision) (b : Slices) → (verdictCode v ≡ 0 → ⊥) → filledBy v d b ≡ b
+kept-by verdict.Accepted d b n = absurd (n refl)
+kept-by (verdict.Refused w) d b n = refl
+
+kept-deciding : (f : List ℕ) (b : Slices) (r : ℕ) (x : Slices) → DecidedIs f b r x → (r ≡ 0 → ⊥) → x ≡ b
+kept-deciding f b r x (answers.short h) n = refl
+kept-deciding f b r x (answers.decided d h k) n = kept-by (d .verdict) d b n
+
+reason-kept : (p : Reason) (b : List ℕ) → (reasonCode p ≡ 0 → ⊥) → reasonOver p b ≡ b
+reason-kept reason.None b n = absurd (n refl)
+reason-kept reason.Overload b n = absurd (n refl)
+reason-kept reason.Beyond b n = absurd (n refl)
+reason-kept (reason.Buffer i size) b n = absurd (n refl)
+reason-kept (reason.Refused w) b n = refl
+
+kept-reasoning : (f b : List ℕ) (r : ℕ) (x : List ℕ) → ReasonedIs f b r x → (r ≡ 0 → ⊥) → x ≡ b
+kept-reasoning f b r x (answers.short h) n = refl
+kept-reasoning f b r x (answers.reasoned p h k) n = reason-kept p b n
+
+-- ---- the report
+
+refused-some : (w : Refusal) → 1 ≤ length (refusedText w)
+refused-some w = let n = two-length (ascii "refused ") (numberOf w) (placeOf w) in omega arith
+
+text-some : (f t : List ℕ) → TextIs f t → 1 ≤ length t
+text-some f t (granted m e h) =
+    let l = loadIn f in
+    let n = two-length (ascii "accepted ") (l .playing) (roundTime l m) in
+    let k = length-append (twoLine (ascii "accepted ") (l .playing) (roundTime l m)) (sessionLines l m (l .playing)) in
+    omega arith
+text-some f t (eight e none) = refused-some NoSet
+text-some f t (unread w e) = refused-some w
+
+report-none : (f b : List ℕ) (n : ℕ) (x : List ℕ) → ReportedIs f b n x → (n ≡ 0) ↔ (length b < textMost)
+report-none f b n x (reported r _ (told t h l)) = let k = text-some f t h in (λ e. omega arith, λ e. omega arith)
+report-none f b n x (reported r _ (short l)) = (λ e. l, λ e. refl)
+
+report-kept : (f b : List ℕ) (n : ℕ) (x : List ℕ) → ReportedIs f b n x → length b < textMost → x ≡ b
+report-kept f b n x (reported r _ (told t h l)) s = absurd (let z : ⊥ = omega arith in z)
+report-kept f b n x (reported r _ (short l)) s = refl
+
+pub embedded : Embedded
+embedded =
+    record {
+      reporting = λ f b. (let r = answered .reporting f b in (r .0 .len, (r .1 .0, reported (r .0) (r .1 .0) (r .1 .1))));
+      deciding = decides;
+      reasoning = reasons;
+      number = code-number;
+      place = code-place;
+      yes = yes-alone;
+      decided-says = says-deciding;
+      reasoned-says = says-reasoning;
+      decided-kept = kept-deciding;
+      reasoned-kept = kept-reasoning;
+      report-none = report-none;
+      report-kept = report-kept;
+    }
