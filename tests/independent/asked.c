@@ -53,13 +53,18 @@ static const char *report_differs(const uint8_t *file, size_t length, uint64_t *
     return memcmp(buffer, expected, sizeof buffer) == 0 ? NULL : "the bytes of the report";
 }
 
+static struct refusal read_show(const uint8_t *file, size_t length, struct show *show)
+{
+    const uint8_t *note;
+    size_t note_length;
+    return show_read(file, length, show, &note, &note_length);
+}
+
 /* What is decided of the show in a file. */
 static struct refusal decide_file(const uint8_t *file, size_t length, struct decision *decision)
 {
     struct show show;
-    const uint8_t *note;
-    size_t note_length;
-    struct refusal refusal = show_read(file, length, &show, &note, &note_length);
+    struct refusal refusal = read_show(file, length, &show);
     return refusal.number == 0 ? show_decide(&show, decision) : refusal;
 }
 
@@ -99,9 +104,7 @@ static const char *verdict_differs(const uint8_t *file, size_t length, uint64_t 
 static struct refusal reason_file(const uint8_t *file, size_t length, struct reason *reason)
 {
     struct show show;
-    const uint8_t *note;
-    size_t note_length;
-    struct refusal refusal = show_read(file, length, &show, &note, &note_length);
+    struct refusal refusal = read_show(file, length, &show);
     return refusal.number == 0 ? show_reason(&show, reason) : refusal;
 }
 

@@ -6,21 +6,6 @@
 
 enum { ROOM_MOST = 4096 };
 
-static void print_four(char before, uint32_t a, uint32_t b, uint32_t c, uint32_t d)
-{
-    printf("%c%" PRIu32 ",%" PRIu32 ",%" PRIu32 ",%" PRIu32, before, a, b, c, d);
-}
-
-/* All the places, the unused ones too. */
-static void print_show(const struct show *show)
-{
-    print_four('\t', show->block, show->cylinder, show->layouts, show->sessions);
-    for (const struct layout *l = show->layout; l < show->layout + LAYOUTS; l++)
-        print_four(';', l->seek, l->track, l->block, l->rotation);
-    for (const struct session *s = show->session; s < show->session + SESSIONS; s++)
-        print_four(';', s->rate, s->cushion, s->buffer, s->layout);
-}
-
 /* A field, used or not, becomes any number. */
 static void change_field(struct dice *dice, struct show *show)
 {
@@ -62,7 +47,7 @@ static void print_write(struct dice *dice)
             change_field(dice, &show);
     size_t note_length = made_note(dice, dice_chance(dice, 15), note);
     size_t length = made_bytes(&show, note, note_length, file);
-    print_show(&show);
+    print_show('	', &show);
     putchar('\t');
     made_hex(note, note_length, false);
     printf("\t%zu\n", made_room(dice, length));

@@ -17,21 +17,6 @@ static void print_hex(const uint8_t *bytes, size_t length)
     }
 }
 
-static void print_four(char before, uint32_t a, uint32_t b, uint32_t c, uint32_t d)
-{
-    printf("%c%" PRIu32 ",%" PRIu32 ",%" PRIu32 ",%" PRIu32, before, a, b, c, d);
-}
-
-/* With a space before it. */
-static void print_show(const struct show *show)
-{
-    print_four(' ', show->block, show->cylinder, show->layouts, show->sessions);
-    for (const struct layout *l = show->layout; l < show->layout + LAYOUTS; l++)
-        print_four(';', l->seek, l->track, l->block, l->rotation);
-    for (const struct session *s = show->session; s < show->session + SESSIONS; s++)
-        print_four(';', s->rate, s->cushion, s->buffer, s->layout);
-}
-
 static bool get_four(struct word word, uint32_t four[4])
 {
     struct word part[4];
@@ -102,7 +87,7 @@ static bool do_read(const struct word *field)
         return true;
     }
     printf(" read");
-    print_show(&show);
+    print_show(' ', &show);
     putchar(' ');
     print_hex(note, note_length);
     print_copy(&show, note, note_length, file, length);
@@ -122,7 +107,7 @@ static void print_reread(const uint8_t *file, size_t length)
         printf(" refused %" PRIu32 " %" PRIu32, refusal.number, refusal.place);
         return;
     }
-    print_show(&show);
+    print_show(' ', &show);
     printf(" %zu", note_length);
 }
 

@@ -1,7 +1,10 @@
-/* Lines, numbers and hex, for the two programs. */
+/* Lines, numbers, hex and shows as text, for the programs. */
 #ifndef LINES_H
 #define LINES_H
 
+#include "rules.h"
+
+#include <inttypes.h>
 #include <stdbool.h>
 #include <stddef.h>
 #include <stdint.h>
@@ -89,6 +92,21 @@ static inline bool hex(struct word word, bool capitals, uint8_t *bytes, size_t m
     }
     *length = word.length / 2;
     return true;
+}
+
+static inline void print_four(char before, uint32_t a, uint32_t b, uint32_t c, uint32_t d)
+{
+    printf("%c%" PRIu32 ",%" PRIu32 ",%" PRIu32 ",%" PRIu32, before, a, b, c, d);
+}
+
+/* All the places, the unused ones too. */
+static inline void print_show(char before, const struct show *show)
+{
+    print_four(before, show->block, show->cylinder, show->layouts, show->sessions);
+    for (const struct layout *l = show->layout; l < show->layout + LAYOUTS; l++)
+        print_four(';', l->seek, l->track, l->block, l->rotation);
+    for (const struct session *s = show->session; s < show->session + SESSIONS; s++)
+        print_four(';', s->rate, s->cushion, s->buffer, s->layout);
 }
 
 #endif
