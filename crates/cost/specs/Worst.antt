@@ -2,10 +2,12 @@
 use Prim.Native.Nat.{ℕ, _+_, _*_}
 use mathlib.Core.Logic.{ite}
 use native.Mathlib.Decide.{decLt}
-use mathlib.Core.List.{List}
+use mathlib.Core.List.{List, [], _∷_}
+use lib.IntN.{pos}
 use Rattle.drive.specs.Limits.{layoutAt, sessionAt}
 use Rattle.drive.specs.Lists.{listed, padded}
 use Rattle.drive.specs.Checks.{first, unless, showCheck}
+use Rattle.drive.specs.Outcomes.{Outcome, granted, refusedBy}
 use Rattle.cost.specs.Bound.{worstTime}
 use Rattle.cost.specs.Decisions.{limited?}
 use Rattle.drive.specs.declared.Layout.{Layout}
@@ -51,3 +53,8 @@ answered (Refused w) t = worst.Refused w
 unfoldable pub worstOf : Show → ℕ → ℕ → Worst
 worstOf s i n =
     answered (first (showCheck s) (unless (decLt i (s .playing)) NoSession)) (worstTime (s .drive .cylinder) (costOf s i) n)
+
+-- the time, or the refusal
+abbrev pub worstOutcome : Worst → Outcome
+worstOutcome (worst.Takes t) = granted (pos t ∷ [])
+worstOutcome (worst.Refused w) = refusedBy w

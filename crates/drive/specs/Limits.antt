@@ -18,9 +18,23 @@ pub record Between (least x most : ℕ) : Type 0 where
   pub low : least ≤ x
   pub high : x ≤ most
 
+-- Limits that are cited elsewhere have a name: the smallest block and the largest, ..
+abbrev pub blockLeast : ℕ
+blockLeast = 512
+
+abbrev pub blockMost : ℕ
+blockMost = 65536
+
+-- .. the highest rate, the largest buffer.
+abbrev pub rateMost : ℕ
+rateMost = 100000000
+
+abbrev pub bufferMost : ℕ
+bufferMost = 1073741824
+
 -- Drive: block size A, 512 to 65,536 and a multiple of 512; N blocks per cylinder, 1 to 65,536.
 pub record DriveWithin (d : Drive) : Type 0 where
-  pub block : Between 512 (d .block) 65536
+  pub block : Between blockLeast (d .block) blockMost
   pub whole : d .block % 512 ≡ 0
   pub cylinder : Between 1 (d .cylinder) 65536
 
@@ -31,13 +45,9 @@ pub record LayoutWithin (y : Layout) : Type 0 where
   pub time : Between 1 (y .time) 1000000
   pub rotation : y .rotation ≤ 1000000
 
--- the largest buffer that there is
-abbrev pub bufferMost : ℕ
-bufferMost = 1073741824
-
 -- Session: rate R 1 to 100,000,000 bytes/s; cushion Y 1 to 16,777,216; buffer B 1 to 1,073,741,824; layout number below the layout count.
 pub record SessionWithin (laid : ℕ) (x : Session) : Type 0 where
-  pub rate : Between 1 (x .rate) 100000000
+  pub rate : Between 1 (x .rate) rateMost
   pub cushion : Between 1 (x .cushion) 16777216
   pub buffer : Between 1 (x .buffer) bufferMost
   pub layout : x .layout < laid

@@ -1,12 +1,15 @@
 -- Why a show is refused, and how loaded its drive is: docs/RULES.md, section 11.
 use Prim.Native.Nat.{ℕ}
 use mathlib.Core.Path.{_≡_}
+use mathlib.Core.List.{[], _∷_}
+use lib.IntN.{pos}
 use Rattle.drive.specs.declared.Show.{Show}
 use Rattle.drive.specs.declared.refusal.Refusal.{Refusal}
 use Rattle.drive.specs.declared.refusal.Check.{Check}
 use Rattle.drive.specs.declared.refusal.Check.the-variants as check
 use Rattle.drive.specs.Limits.{ShowWithin, bufferMost}
 use Rattle.drive.specs.Checks.{showCheck}
+use Rattle.drive.specs.Outcomes.{Outcome, granted, refusedBy}
 use Rattle.theory.specs.Counts.{Accepted}
 use Rattle.theory.specs.Reasons.{NeverKeepsUp, Beyond, TooSmall, tenths}
 use Rattle.theory.specs.Shows.{loadOf}
@@ -31,3 +34,16 @@ answered (check.Refused w) n = loaded.Refused w
 -- The load in tenths of a per cent, or 2, 5, 6, 7.
 unfoldable pub loadedOf : Show → Loaded
 loadedOf s = answered (showCheck s) (tenths (loadOf s))
+
+-- which reason, 0 for none; of a buffer that is too small its session and the size that it needs; or the refusal
+abbrev pub reasonOutcome : Reason → Outcome
+reasonOutcome reason.None = granted (pos 0 ∷ [])
+reasonOutcome reason.Overload = granted (pos 1 ∷ [])
+reasonOutcome reason.Beyond = granted (pos 2 ∷ [])
+reasonOutcome (reason.Buffer i size) = granted (pos 3 ∷ pos i ∷ pos size ∷ [])
+reasonOutcome (reason.Refused w) = refusedBy w
+
+-- the tenths of a per cent, or the refusal
+abbrev pub loadedOutcome : Loaded → Outcome
+loadedOutcome (loaded.Tenths n) = granted (pos n ∷ [])
+loadedOutcome (loaded.Refused w) = refusedBy w

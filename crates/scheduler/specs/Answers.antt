@@ -1,11 +1,14 @@
 -- What choose answers: docs/RULES.md, section 9.
 use Prim.Native.Nat.{ℕ}
+use mathlib.Core.List.{[], _∷_}
 use mathlib.Core.Logic.{ite}
+use lib.IntN.{pos}
 use native.Mathlib.Decide.{decLt, ℕ-discrete}
 use Rattle.drive.specs.declared.refusal.Refusal.the-variants as refusal
 use Rattle.drive.specs.declared.refusal.Check.{Check}
 use Rattle.drive.specs.declared.refusal.Check.the-variants.{Within, Refused}
 use Rattle.drive.specs.Checks.{first}
+use Rattle.drive.specs.Outcomes.{Outcome, granted, refusedBy}
 use Rattle.run.specs.declared.Run.{Run}
 use Rattle.run.specs.Run.{playing, seatAt, onward}
 use Rattle.run.specs.Decisions.{put?, soundCheck}
@@ -40,3 +43,9 @@ chosenBy (Refused w) r = chosen (choice.Refused w) r
 
 unfoldable pub chooseOf : Run → Chosen
 chooseOf r = chosenBy (chooseCheck r) r
+
+-- the session to read, none where it is Idle, or the refusal
+abbrev pub choiceOutcome : Choice → Outcome
+choiceOutcome choice.Idle = granted []
+choiceOutcome (choice.Read i) = granted (pos i ∷ [])
+choiceOutcome (choice.Refused w) = refusedBy w

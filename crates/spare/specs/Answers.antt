@@ -1,5 +1,6 @@
 -- What each call answers: docs/RULES.md, section 10.
 use Prim.Native.Nat.{ℕ}
+use mathlib.Core.List.{[], _∷_}
 use mathlib.Core.Logic.{ite}
 use native.Mathlib.Decide.{decLt}
 use lib.IntN.{ℤ, pos}
@@ -7,12 +8,14 @@ use Rattle.drive.specs.declared.refusal.Refusal.the-variants as refusal
 use Rattle.drive.specs.declared.refusal.Check.{Check}
 use Rattle.drive.specs.declared.refusal.Check.the-variants.{Within, Refused}
 use Rattle.drive.specs.Checks.{unless, first}
+use Rattle.drive.specs.Outcomes.{Outcome, granted, refusedBy}
 use Rattle.theory.specs.Spare.{less?}
 use Rattle.run.specs.declared.Run.{Run}
 use Rattle.run.specs.Run.{playing}
 use Rattle.run.specs.Decisions.{false?, soundCheck}
 use Rattle.run.specs.Answers.{moved, sessionCheck, freeCheck}
 use Rattle.run.specs.declared.Moved.{Moved}
+use Rattle.spare.specs.declared.Spare.{Spare}
 use Rattle.spare.specs.declared.Spare.the-variants as spare
 use Rattle.spare.specs.declared.Spared.{Spared}
 use Rattle.spare.specs.Times.{aheadAt, slackTime, running}
@@ -49,3 +52,8 @@ startCheck r =
 
 unfoldable pub startOf : Run → Moved
 startOf r = moved (startCheck r) r (running r)
+
+-- the time in µs, or the refusal
+abbrev pub spareOutcome : Spare → Outcome
+spareOutcome (spare.Time z) = granted (z ∷ [])
+spareOutcome (spare.Refused w) = refusedBy w

@@ -1,7 +1,8 @@
 -- What deciding a show answers, and what trying given counts answers: docs/RULES.md, section 7.
 use Prim.Native.Nat.{ℕ}
 use mathlib.Core.Path.{_≡_}
-use mathlib.Core.List.{List}
+use mathlib.Core.List.{List, [], _∷_}
+use lib.IntN.{pos}
 use lib.ListN.{getD, replicate}
 use Rattle.drive.specs.declared.Show.{Show}
 use Rattle.drive.specs.declared.refusal.Refusal.{Refusal}
@@ -9,9 +10,11 @@ use Rattle.drive.specs.declared.refusal.Refusal.the-variants.{NoSet}
 use Rattle.drive.specs.declared.refusal.Check.the-variants as check
 use Rattle.drive.specs.Limits.{ShowWithin}
 use Rattle.drive.specs.Checks.{showCheck}
+use Rattle.drive.specs.Outcomes.{Outcome, granted, refusedBy}
 use Rattle.drive.specs.Lists.{listed, padded}
 use Rattle.theory.specs.Counts.{Load, roundTime, Good, Accepted, Smallest}
 use Rattle.theory.specs.Shows.{loadOf}
+use Rattle.verdict.specs.declared.Verdict.{Verdict}
 use Rattle.verdict.specs.declared.Verdict.the-variants as verdict
 use Rattle.verdict.specs.declared.Decision.{Decision}
 use Rattle.verdict.specs.declared.Answer.{Answer}
@@ -58,3 +61,14 @@ pub data TrialIs (s : Show) (m : List ℕ) : Trial → Type 0 where
   holds : ShowWithin s → Good (loadOf s) (setOf m) → TrialIs s m (timedAs answer.Holds (loadOf s) (setOf m))
   fails : ShowWithin s → (Good (loadOf s) (setOf m) → ⊥) → TrialIs s m (timedAs answer.Fails (loadOf s) (setOf m))
   untried : (w : Refusal) → showCheck s ≡ check.Refused w → TrialIs s m (untriedFor w)
+
+-- accepted, or the refusal
+abbrev pub verdictOutcome : Verdict → Outcome
+verdictOutcome verdict.Accepted = granted []
+verdictOutcome (verdict.Refused w) = refusedBy w
+
+-- 1 where the counts hold, 0 where they do not, or the refusal
+abbrev pub answerOutcome : Answer → Outcome
+answerOutcome answer.Holds = granted (pos 1 ∷ [])
+answerOutcome answer.Fails = granted (pos 0 ∷ [])
+answerOutcome (answer.Refused w) = refusedBy w
