@@ -5,7 +5,7 @@ use native.Mathlib.Omega.{arith}
 use native.Mathlib.Nat.{le-of-eq, le-trans, one-mul, add-mul, mul-add, mul-assoc, mul-left-comm, mul-le-mul, mul-le-mul-left, mul-le-mul-right, mul-lt-mul-of-pos-right, mul-pos}
 use native.Mathlib.Decide.{decLt}
 use Rattle.cost.specs.declared.Cost.{Cost}
-use Rattle.cost.specs.Bound.{Modest, Cheaper, Limited, edges, worstTime, weight, spareOf, BoundLaws, countMost, worstMost}
+use Rattle.cost.specs.Bound.{Modest, Cheaper, Limited, edges, worstTime, weight, spareOf, BoundLaws, fixedMost, eachMost, crossMost, countMost, worstMost}
 use Rattle.cost.proofs.EdgeLaws.{edges-grow, edges-merge, edges-enough, edges-few, edges-capped}
 
 -- No fewer blocks take no less.
@@ -77,15 +77,15 @@ worst-cheaper N c d h n =
 
 -- The two products of U, for at most k blocks of a limited cost.
 pub record PartsCapped (N k : ℕ) (c : Cost) (n : ℕ) : Type 0 where
-  pub blocks : n * c .each ≤ k * 3000000
-  pub crossed : edges N n * c .cross ≤ k * 1000000
+  pub blocks : n * c .each ≤ k * eachMost
+  pub crossed : edges N n * c .cross ≤ k * crossMost
 
 pub parts-capped : (N k : ℕ) (c : Cost) → Limited c → (n : ℕ) → n ≤ k → PartsCapped N k c n
 parts-capped N k c l n h =
     record { blocks = mul-le-mul h (l .each); crossed = mul-le-mul (le-trans (edges-capped N n) h) (l .cross) }
 
 -- At most k blocks, of a limited cost.
-pub worst-below : (N k : ℕ) (c : Cost) → Limited c → (n : ℕ) → n ≤ k → worstTime N c n ≤ 5000000 + k * 4000000
+pub worst-below : (N k : ℕ) (c : Cost) → Limited c → (n : ℕ) → n ≤ k → worstTime N c n ≤ fixedMost + k * (eachMost + crossMost)
 unfolding worstTime
 worst-below N k c l n h = omega (arith, parts-capped N k c l n h, l .fixed)
 

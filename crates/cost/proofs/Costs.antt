@@ -1,10 +1,9 @@
 -- The costs of a show within its limits, and the worst time of its sessions. Assumes nothing.
 use Prim.Native.Nat.{ℕ, _+_, _*_, _≤_, _<_}
 use mathlib.Core.Path.{_≡_, refl, sym, ap, _∙_}
-use mathlib.Core.Logic.{ite, if-pos, if-neg}
+use mathlib.Core.Logic.{if-pos}
 use native.Mathlib.Omega.{arith}
 use native.Mathlib.Decide.{decLt}
-use lib.ListN.{getD}
 use Rattle.drive.specs.declared.Drive.{Drive}
 use Rattle.drive.specs.declared.Layout.{Layout}
 use Rattle.drive.specs.declared.Show.{Show}
@@ -19,8 +18,7 @@ use Rattle.drive.specs.Limits.{LayoutWithin, ShowWithin, Alike, layoutAt, sessi
 use Rattle.drive.specs.Checks.{unless, showCheck}
 use Rattle.cost.specs.Bound.{Modest, Limited, Cheaper, BoundLaws, ceil, edges, worstTime, weight, spareOf}
 use Rattle.cost.specs.Decisions.{limited?}
-use Rattle.cost.specs.Worst.{readCost, costOf, noCost, placed, costsOf, timeOf, worstOf}
-use Rattle.drive.proofs.Lists.{filled-at}
+use Rattle.cost.specs.Worst.{readCost, costOf, timeOf, worstOf}
 use Rattle.drive.proofs.Checks.{unless-kept, unless-broken}
 use Rattle.cost.proofs.Bound.{worst-laws}
 use Rattle.drive.proofs.Shows.{check-within, alike-check}
@@ -35,7 +33,7 @@ read-time N y n = omega arith
 read-modest : (y : Layout) → LayoutWithin y → Modest (readCost y)
 read-modest y w = omega arith
 
-read-limited : (y : Layout) → LayoutWithin y → Limited (readCost y)
+pub read-limited : (y : Layout) → LayoutWithin y → Limited (readCost y)
 read-limited y w = omega arith
 
 -- No time of a layout longer: no cost larger.
@@ -44,8 +42,16 @@ pub read-cheaper :
     Cheaper (readCost x) (readCost y)
 read-cheaper x y l t b r = omega arith
 
+-- A session's operations are reads on its layout.
+pub cost-read : (s : Show) (i : ℕ) → readCost (layoutAt s (sessionAt s i .layout)) ≡ costOf s i
+unfolding costOf
+cost-read s i = refl
+
 module _ (s : Show) (w : ShowWithin s) (i : ℕ) (l : i < s .playing) where
-  -- the layout of a session that plays
+  -- the layout of a session that plays, which has a place
+  pub laid-below : sessionAt s i .layout < 8
+  laid-below = let a = w .sessions i l .layout in let b = w .counts .layouts .high in omega arith
+
   pub layout-within : LayoutWithin (layoutAt s (sessionAt s i .layout))
   layout-within = w .layouts (sessionAt s i .layout) (w .sessions i l .layout)
 
@@ -65,24 +71,6 @@ module _ (s : Show) (w : ShowWithin s) (i : ℕ) (l : i < s .playing) where
 pub time-takes : (c : Cost) → Limited c → (N n : ℕ) → timeOf c N n ≡ time.Takes (worstTime N c n)
 unfolding timeOf
 time-takes c l N n = if-pos (limited? c) l (time.Takes (worstTime N c n)) time.Beyond
-
--- How many sessions have a place.
-pub placed-few : (s : Show) → s .playing ≤ 16 → placed s ≡ s .playing
-unfolding placed
-placed-few s h = from (decLt (s .playing) 16)
-  where
-    from : Dec (s .playing < 16) → ite (decLt (s .playing) 16) (s .playing) 16 ≡ s .playing
-    from (yes l) = if-pos (decLt (s .playing) 16) l (s .playing) 16
-    from (no l) = if-neg (decLt (s .playing) 16) l (s .playing) 16 ∙ omega arith
-
-pub placed-full : (s : Show) → 16 ≤ s .playing → placed s ≡ 16
-unfolding placed
-placed-full s h = if-neg (decLt (s .playing) 16) (λ l. omega arith) (s .playing) 16
-
--- The row of costs has each session's at its place.
-pub costs-at : (s : Show) → s .playing ≤ 16 → (i : ℕ) → i < s .playing → getD (costsOf s) i noCost ≡ costOf s i
-unfolding costsOf
-costs-at s h i l = filled-at 16 noCost (costOf s) (placed s) i noCost (rw (placed-few s h) l)
 
 -- Shows that agree below their counts have the same costs there ..
 pub alike-cost : (s t : Show) → Alike s t → ShowWithin s → (i : ℕ) → i < s .playing → costOf s i ≡ costOf t i

@@ -48,10 +48,19 @@ pub record Cheaper (c d : Cost) : Type 0 where
   pub cross : c .cross ≤ d .cross
 
 -- B6 has the limits of a cost. A read stays well below: they leave room for a dearer operation.
+abbrev pub fixedMost : ℕ
+fixedMost = 5000000
+
+abbrev pub eachMost : ℕ
+eachMost = 3000000
+
+abbrev pub crossMost : ℕ
+crossMost = 1000000
+
 pub record Limited (c : Cost) : Type 0 where
-  pub fixed : c .fixed ≤ 5000000
-  pub each : c .each ≤ 3000000
-  pub cross : c .cross ≤ 1000000
+  pub fixed : c .fixed ≤ fixedMost
+  pub each : c .each ≤ eachMost
+  pub cross : c .cross ≤ crossMost
 
 -- No buffer holds more blocks than this ..
 abbrev pub countMost : ℕ

@@ -2,10 +2,9 @@
 use Prim.Native.Nat.{ℕ, _+_, _*_}
 use mathlib.Core.Logic.{ite}
 use native.Mathlib.Decide.{decLt}
-use mathlib.Core.List.{List, [], _∷_}
+use mathlib.Core.List.{[], _∷_}
 use lib.IntN.{pos}
 use Rattle.drive.specs.Limits.{layoutAt, sessionAt}
-use Rattle.drive.specs.Lists.{listed, padded}
 use Rattle.drive.specs.Checks.{first, unless, showCheck}
 use Rattle.drive.specs.Outcomes.{Outcome, granted, refusedBy}
 use Rattle.cost.specs.Bound.{worstTime}
@@ -28,17 +27,6 @@ readCost y = record { fixed = y .longest + 2 * y .rotation; each = y .time; cros
 -- A session's operations are reads on its layout.
 unfoldable pub costOf : Show → ℕ → Cost
 costOf s i = readCost (layoutAt s (sessionAt s i .layout))
-
-abbrev pub noCost : Cost
-noCost = record { fixed = 0; each = 0; cross = 0 }
-
--- the sessions that have a place
-unfoldable pub placed : Show → ℕ
-placed s = ite (decLt (s .playing) 16) (s .playing) 16
-
--- the cost of each, zeros in the places above
-unfoldable pub costsOf : Show → List Cost
-costsOf s = padded 16 noCost (listed (costOf s) (placed s))
 
 -- U(n) of a cost within its limits
 unfoldable pub timeOf : Cost → ℕ → ℕ → Time

@@ -1,10 +1,9 @@
 // The worst time of an operation: U of docs/RULES.md, section 3.
 ghost use mathlib.Core.Path.{_≡_};
-ghost use Rattle.drive.specs.Limits.{Tells, sessionAt, layoutAt};
+ghost use Rattle.drive.specs.Limits.{Tells};
 ghost use Rattle.cost.specs.Bound.{Limited, edges, worstTime};
-ghost use Rattle.cost.specs.Worst.{readCost, costOf, costsOf, timeOf, worstOf};
+ghost use Rattle.cost.specs.Worst.{readCost, timeOf, worstOf};
 use drive::Layout;
-use drive::Session;
 use drive::Show;
 use drive::refusal::Check;
 use drive::refusal::Refusal;
@@ -34,6 +33,17 @@ impl Cost {
     pub const EACH_MOST: u64 = 3_000_000;
 
     pub const CROSS_MOST: u64 = 1_000_000;
+
+    // A read seeks far and waits for two rotations once.
+    pub fn of_read(layout: Layout) -> Cost
+        ensures { λ r. ⌜ r ≡ readCost layout ⌝ }
+    {
+        Cost {
+            fixed: layout.longest as u64 + 2 * (layout.rotation as u64),
+            each: layout.time as u64,
+            cross: layout.track as u64,
+        }
+    }
 
     fn within(self) -> bool
         ensures { λ r. ⌜ Tells r (Limited self) ⌝ }
@@ -82,80 +92,6 @@ fn edges(cylinder: u32, n: u32) -> u64
     (n as u64 + per - 1) / per
 }
 
-// A read seeks far and waits for two rotations once.
-fn read_cost(layout: Layout) -> Cost
-    ensures { λ r. ⌜ r ≡ readCost layout ⌝ }
-{
-    Cost {
-        fixed: layout.longest as u64 + 2 * (layout.rotation as u64),
-        each: layout.time as u64,
-        cross: layout.track as u64,
-    }
-}
-
-// What stands at a place; past the last, zeros.
-fn session_at(show: Show, i: usize) -> Session
-    ensures { λ r. ⌜ r ≡ sessionAt show i ⌝ }
-{
-    if i < Show::PLAYING_MOST {
-        return show.sessions[i];
-    }
-    Session {
-        rate: 0,
-        cushion: 0,
-        buffer: 0,
-        layout: 0,
-    }
-}
-
-fn layout_at(show: Show, i: usize) -> Layout
-    ensures { λ r. ⌜ r ≡ layoutAt show i ⌝ }
-{
-    if i < Show::LAID_MOST {
-        return show.layouts[i];
-    }
-    Layout {
-        longest: 0,
-        track: 0,
-        time: 0,
-        rotation: 0,
-    }
-}
-
-// What a session's operations cost.
-fn cost_of(show: Show, i: usize) -> Cost
-    ensures { λ r. ⌜ r ≡ costOf show i ⌝ }
-{
-    let session = session_at(show, i);
-    let at = session.layout as usize;
-    read_cost(layout_at(show, at))
-}
-
-// What the operations of each session cost, zeros in the places above: one call where `cost_of` would copy the show for each.
-pub fn costs_of(show: Show) -> [Cost; 16]
-    ensures { λ r. ⌜ r ≡ costsOf show ⌝ }
-{
-    let none = Cost {
-        fixed: 0,
-        each: 0,
-        cross: 0,
-    };
-    let mut costs = [none; 16];
-    let mut i = 0;
-    while i < show.playing {
-        if Show::PLAYING_MOST <= i {
-            return costs;
-        }
-        let session = show.sessions[i];
-        let at = session.layout as usize;
-        if at < Show::LAID_MOST {
-            costs[i] = read_cost(show.layouts[at]);
-        }
-        i += 1;
-    }
-    costs
-}
-
 // U(n) of session i: 2, 5, 6, 7, then 9.
 pub fn worst_time(show: Show, i: usize, n: u32) -> Worst
     ensures { λ r. ⌜ r ≡ worstOf show i n ⌝ }
@@ -167,6 +103,8 @@ pub fn worst_time(show: Show, i: usize, n: u32) -> Worst
     if show.playing <= i {
         return Worst::Refused(Refusal::NoSession);
     }
-    let cost = cost_of(show, i);
+    let session = show.sessions[i];
+    let at = session.layout as usize;
+    let cost = Cost::of_read(show.layouts[at]);
     Worst::Takes(cost.bound(show.drive.cylinder, n))
 }

@@ -2,22 +2,19 @@
 use Prim.Native.Nat.{ℕ, zero, suc, _+_, _*_, _/_, _%_, _≤_, _<_}
 use mathlib.Core.Path.{_≡_, sym, _∙_, ap}
 use mathlib.Core.Logic.{_↔_}
-use mathlib.Core.List.{List}
 use native.Mathlib.Omega.{arith}
 use native.Mathlib.Nat.{le-trans, mul-add, mul-assoc, mul-left-comm, mul-le-mul, mul-le-mul-left, mul-pos, mul-add-div, mul-add-mod-self-left, div-add-mod, div-le-self, le-div-iff-mul-le, mod-lt}
-use lib.ListN.{getD}
 use Rattle.drive.specs.declared.Show.{Show}
-use Rattle.drive.specs.Limits.{ShowWithin, sessionAt}
+use Rattle.drive.specs.Limits.{ShowWithin, blockMost, rateMost, sessionAt}
 use Rattle.cost.specs.declared.Cost.{Cost}
-use Rattle.cost.specs.Bound.{weight}
-use Rattle.cost.specs.Worst.{costOf, costsOf, noCost}
+use Rattle.cost.specs.Bound.{weight, eachMost, crossMost}
+use Rattle.cost.specs.Worst.{costOf}
 use Rattle.cost.proofs.Costs.{cost-limited}
 use Rattle.theory.specs.Sum.{sumTo}
 use Rattle.theory.specs.Counts.{Load, unit, wholeLoad, Overloaded}
 use Rattle.theory.specs.Reasons.{tenths}
 use Rattle.theory.specs.Shows.{loadOf}
 use Rattle.theory.proofs.Sum.{sum-none, sum-more}
-use Rattle.verdict.proofs.Sets.{cost-same}
 use Rattle.reason.specs.Steps.{blocksAt, edgesAt, sumsOf, SumsSmall, workOf, WorkSmall}
 use Rattle.reason.specs.declared.work.Sums.{Sums}
 use Rattle.reason.specs.declared.work.Work.{Work}
@@ -29,8 +26,8 @@ pub record SumsTo (s : Show) (blocks edges i : ℕ) : Type 0 where
   pub inside : i ≤ s .playing
   pub blocks-are : blocks ≡ sumTo (blocksAt s) i
   pub edges-are : edges ≡ sumTo (edgesAt s) i
-  pub blocks-few : blocks ≤ i * (100000000 * 3000000)
-  pub edges-few : edges ≤ i * (100000000 * 1000000)
+  pub blocks-few : blocks ≤ i * (rateMost * eachMost)
+  pub edges-few : edges ≤ i * (rateMost * crossMost)
 
 pub sums-begun : (s : Show) → SumsTo s 0 0 0
 sums-begun s =
@@ -42,17 +39,18 @@ sums-begun s =
       edges-few = omega arith;
     }
 
-module _ (s : Show) (w : ShowWithin s) (costs : List Cost) (e : costs ≡ costsOf s) (i : ℕ) (l : i < s .playing) where
-  -- A session adds this much at most.
-  pub blocks-capped : sessionAt s i .rate * getD costs i noCost .each ≤ 100000000 * 3000000
-  blocks-capped = rw (cost-same s w costs e i l) (mul-le-mul (w .sessions i l .rate .high) (cost-limited s w i l .each))
+-- Session i, whose operations cost x.
+module _ (s : Show) (w : ShowWithin s) (i : ℕ) (l : i < s .playing) (x : Cost) (e : x ≡ costOf s i) where
+  -- It adds this much at most.
+  pub blocks-capped : sessionAt s i .rate * x .each ≤ rateMost * eachMost
+  blocks-capped = rw e (mul-le-mul (w .sessions i l .rate .high) (cost-limited s w i l .each))
 
-  pub edges-capped : sessionAt s i .rate * getD costs i noCost .cross ≤ 100000000 * 1000000
-  edges-capped = rw (cost-same s w costs e i l) (mul-le-mul (w .sessions i l .rate .high) (cost-limited s w i l .cross))
+  pub edges-capped : sessionAt s i .rate * x .cross ≤ rateMost * crossMost
+  edges-capped = rw e (mul-le-mul (w .sessions i l .rate .high) (cost-limited s w i l .cross))
 
   pub sums-body :
       (blocks edges : ℕ) → SumsTo s blocks edges i →
-      SumsTo s (blocks + sessionAt s i .rate * getD costs i noCost .each) (edges + sessionAt s i .rate * getD costs i noCost .cross) (i + 1)
+      SumsTo s (blocks + sessionAt s i .rate * x .each) (edges + sessionAt s i .rate * x .cross) (i + 1)
   sums-body blocks edges h =
       let b = blocks-capped in
       let d = edges-capped in
@@ -60,8 +58,8 @@ module _ (s : Show) (w : ShowWithin s) (costs : List Cost) (e : costs ≡ costsO
       let q = h .edges-few in
       record {
         inside = omega arith;
-        blocks-are = rw (cost-same s w costs e i l, h .blocks-are) (sym (sum-more (blocksAt s) i));
-        edges-are = rw (cost-same s w costs e i l, h .edges-are) (sym (sum-more (edgesAt s) i));
+        blocks-are = rw (e, h .blocks-are) (sym (sum-more (blocksAt s) i));
+        edges-are = rw (e, h .edges-are) (sym (sum-more (edgesAt s) i));
         blocks-few = omega arith;
         edges-few = omega arith;
       }
@@ -127,7 +125,7 @@ module _ (s : Show) (w : ShowWithin s) (x : Sums) (g : SumsSmall x) where
 
   pub full-capped : cylinder * block ≤ 4294967296000000
   full-capped =
-      let h : block ≤ 65536000000 = (let b = w .drive .block .high in omega arith) in mul-le-mul (w .drive .cylinder .high) h
+      let h : block ≤ blockMost * 1000000 = (let b = w .drive .block .high in omega arith) in mul-le-mul (w .drive .cylinder .high) h
 
   pub left-capped : cylinder * (x .blocks % block) ≤ 4294967296000000
   left-capped =

@@ -2,8 +2,9 @@
 use Prim.Native.Nat.{ℕ, _*_, _/_, _%_, _≤_, _<_}
 use Rattle.drive.specs.declared.Session.{Session}
 use Rattle.drive.specs.declared.Show.{Show}
-use Rattle.drive.specs.Limits.{sessionAt, noSession, bufferMost}
+use Rattle.drive.specs.Limits.{sessionAt, noSession, rateMost, bufferMost}
 use Rattle.drive.specs.Lists.{listed, padded}
+use Rattle.cost.specs.Bound.{eachMost, crossMost}
 use Rattle.cost.specs.Worst.{costOf}
 use Rattle.theory.specs.Sum.{sumTo}
 use Rattle.theory.specs.Counts.{Load, unit, wholeLoad}
@@ -36,8 +37,8 @@ abbrev pub sumsOf : Show → Sums
 sumsOf s = record { blocks = sumTo (blocksAt s) (s .playing); edges = sumTo (edgesAt s) (s .playing) }
 
 pub record SumsSmall (x : Sums) : Type 0 where
-  pub blocks : x .blocks ≤ 16 * (100000000 * 3000000)
-  pub edges : x .edges ≤ 16 * (100000000 * 1000000)
+  pub blocks : x .blocks ≤ 16 * (rateMost * eachMost)
+  pub edges : x .edges ≤ 16 * (rateMost * crossMost)
 
 -- The load in units of N x A x 1,000,000.
 abbrev pub workOf : Load → Work

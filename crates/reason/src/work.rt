@@ -2,11 +2,9 @@
 // and is not formed.
 ghost use mathlib.Core.Path.{_≡_};
 ghost use Rattle.drive.specs.Limits.{ShowWithin};
-ghost use Rattle.cost.specs.Worst.{costsOf};
 ghost use Rattle.theory.specs.Shows.{loadOf};
 ghost use Rattle.reason.specs.Steps.{sumsOf, SumsSmall, workOf, WorkSmall};
 use cost::Cost;
-use cost::costs_of;
 use drive::Show;
 
 // The sum of R x block time, and that of R x one-track seek.
@@ -22,9 +20,8 @@ pub(crate) struct Work {
     pub part: u64,
 }
 
-fn add_up(show: Show, costs: [Cost; 16]) -> Sums
+fn add_up(show: Show) -> Sums
     requires { ⌜ ShowWithin show ⌝ }
-    requires { ⌜ costs ≡ costsOf show ⌝ }
     ensures { λ r. ⌜ (r ≡ sumsOf show) × SumsSmall r ⌝ }
 {
     let mut blocks: u64 = 0;
@@ -32,7 +29,8 @@ fn add_up(show: Show, costs: [Cost; 16]) -> Sums
     let mut i: usize = 0;
     while i < show.playing {
         let session = show.sessions[i];
-        let cost = costs[i];
+        let at = session.layout as usize;
+        let cost = Cost::of_read(show.layouts[at]);
         let rate = session.rate as u64;
         blocks += rate * cost.each;
         edges += rate * cost.cross;
@@ -45,8 +43,7 @@ pub(crate) fn weigh(show: Show) -> Work
     requires { ⌜ ShowWithin show ⌝ }
     ensures { λ r. ⌜ (r ≡ workOf (loadOf show)) × WorkSmall r ⌝ }
 {
-    let costs = costs_of(show);
-    let sums = add_up(show, costs);
+    let sums = add_up(show);
     let cylinder = show.drive.cylinder as u64;
     let unit = show.drive.block as u64 * 1_000_000;
     let full = cylinder * unit;

@@ -9,7 +9,7 @@ use native.Mathlib.Omega.{arith}
 use lib.ListN.{length, length-append}
 use Rattle.drive.specs.declared.Show.{Show}
 use Rattle.drive.specs.declared.refusal.Refusal.the-variants.{NoSet}
-use Rattle.drive.specs.Limits.{ShowWithin}
+use Rattle.drive.specs.Limits.{ShowWithin, bufferMost}
 use Rattle.cost.specs.Bound.{countMost, worstMost}
 use Rattle.cost.specs.Worst.{costOf}
 use Rattle.cost.proofs.Bound.{worst-capped}
@@ -38,7 +38,7 @@ record Small (l : Load) (m : ℕ → ℕ) : Type 0 where
   playing : l .playing ≤ 16
   count : (i : ℕ) → i < l .playing → m i < countMost
   time : (i : ℕ) → i < l .playing → l .stream i .time (m i) < worstMost
-  size : (i : ℕ) → i < l .playing → needed l i (m i) ≤ 1073741824
+  size : (i : ℕ) → i < l .playing → needed l i (m i) ≤ bufferMost
 
 good-small : (s : Show) → ShowWithin s → (m : ℕ → ℕ) → Good (loadOf s) m → Small (loadOf s) m
 good-small s w m g =

@@ -5,6 +5,7 @@ use mathlib.Core.Path.{_≡_, _∙_, ap}
 use native.Mathlib.Omega.{arith}
 use native.Mathlib.Nat.{le-refl, le-trans, le-antisymm, lt-of-le-of-lt, mul-add, mul-left-comm, mul-le-mul, mul-le-mul-left, mul-le-mul-right, mul-add-div, div-lt-iff-lt-mul}
 use native.Mathlib.Decide.{decLe}
+use Rattle.drive.specs.Limits.{blockLeast, bufferMost}
 use Rattle.cost.specs.Bound.{countMost}
 use Rattle.cost.proofs.Bound.{bound-grows}
 use Rattle.theory.specs.Counts.{Load, Sound, unit, roundTime, needed, Augmenting, Feasible, Good, Accepted, Smallest}
@@ -45,9 +46,9 @@ feasible-below l {m} {o} h f i b =
     omega arith
 
 -- A count that fits a buffer, with a block more, is below the most that a buffer holds.
-pub count-capped : (m A Y B : ℕ) → 512 ≤ A → B ≤ 1073741824 → (m + 1) * A + Y ≤ B → m < countMost
+pub count-capped : (m A Y B : ℕ) → blockLeast ≤ A → B ≤ bufferMost → (m + 1) * A + Y ≤ B → m < countMost
 count-capped m A Y B h g f =
-    let p : (m + 1) * 512 ≤ (m + 1) * A = mul-le-mul-left (m + 1) h in omega arith
+    let p : (m + 1) * blockLeast ≤ (m + 1) * A = mul-le-mul-left (m + 1) h in omega arith
 
 module _ (l : Load) (s : Sound l) where
   pub unit-some : 1 ≤ unit l

@@ -7,7 +7,7 @@ use native.Mathlib.Nat.{one-mul, add-mul, mul-comm, mul-assoc, div-mul-le-self, 
 use borrow.Author.Count.{below-more}
 use Rattle.drive.specs.declared.Session.{Session}
 use Rattle.drive.specs.declared.Show.{Show}
-use Rattle.drive.specs.Limits.{ShowWithin, sessionAt}
+use Rattle.drive.specs.Limits.{ShowWithin, bufferMost, sessionAt}
 use Rattle.theory.specs.Counts.{Accepted, needed}
 use Rattle.theory.specs.Rounds.{need, asked, Fits, NotPast}
 use Rattle.theory.specs.Shows.{loadOf}
@@ -30,7 +30,7 @@ module _ (A : ℕ) (x : Session) (h : Lasting A x) where
   some : 1 ≤ A
   some = let l = h .block .low in omega arith
 
-  pub most-capped : most * (A * 1000000) ≤ 1073741824 * 1000000
+  pub most-capped : most * (A * 1000000) ≤ bufferMost * 1000000
   most-capped =
       let p : most * A ≤ x .buffer - (x .cushion + A) = div-mul-le-self (x .buffer - (x .cushion + A)) A in
       let b = h .buffer in

@@ -12,8 +12,8 @@ use Rattle.drive.specs.Lists.{listed, padded}
 use Rattle.drive.proofs.Lists.{filled-more, filled-at, listed-same}
 use Rattle.cost.specs.Bound.{worstTime}
 use Rattle.cost.specs.declared.Cost.{Cost}
-use Rattle.cost.specs.Worst.{readCost, costOf, costsOf, noCost}
-use Rattle.cost.proofs.Costs.{costs-at}
+use Rattle.cost.specs.Worst.{readCost}
+use Rattle.cost.proofs.Costs.{cost-read}
 use Rattle.theory.specs.Sum.{sumTo}
 use Rattle.theory.specs.Counts.{Load, unit, roundTime, Good, Smallest}
 use Rattle.theory.specs.Shows.{loadOf}
@@ -70,19 +70,9 @@ times-body s f sum out i u w h l e g =
       small = (let a = h .small in omega arith);
     }
 
--- The row of costs has each session's at its place.
-pub cost-same :
-    (s : Show) → ShowWithin s → (costs : List Cost) → costs ≡ costsOf s → (i : ℕ) → i < s .playing → getD costs i noCost ≡ costOf s i
-cost-same s w costs e i l = rw e (costs-at s (w .counts .sessions) i l)
-
--- A session of a show that is within the limits, and its layout.
-module _ (s : Show) (w : ShowWithin s) (i : ℕ) (l : i < s .playing) where
-  pub laid-below : sessionAt s i .layout < 8
-  laid-below = let a = w .sessions i l .layout in let b = w .counts .layouts .high in omega arith
-
-  pub time-same : (n : ℕ) → worstTime (s .drive .cylinder) (readCost (layoutAt s (sessionAt s i .layout))) n ≡ loadOf s .stream i .time n
-  unfolding costOf
-  time-same n = refl
+-- U of a session is that of reads on its layout.
+pub time-same : (s : Show) (i n : ℕ) → worstTime (s .drive .cylinder) (readCost (layoutAt s (sessionAt s i .layout))) n ≡ loadOf s .stream i .time n
+time-same s i n = ap (λ (c : Cost). worstTime (s .drive .cylinder) c n) (cost-read s i)
 
 pub times-ended :
     (s : Show) (f : ℕ → ℕ) (sum : ℕ) (out : List ℕ) (i : ℕ) → ShowWithin s → TimedTo s f sum out i → s .playing ≤ i →

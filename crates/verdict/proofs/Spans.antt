@@ -3,10 +3,7 @@ use Prim.Native.Nat.{ℕ, _+_, _*_, _/_, _≤_, _<_}
 use mathlib.Core.Path.{_≡_, ap}
 use native.Mathlib.Omega.{arith}
 use native.Mathlib.Nat.{le-trans, add-le-add, mul-le-mul, div-add-mod, div-le-self, mod-lt, div-lt-iff-lt-mul}
-use Rattle.drive.specs.declared.Layout.{Layout}
-use Rattle.drive.specs.Limits.{Between, LayoutWithin}
-use Rattle.cost.specs.Bound.{Limited}
-use Rattle.cost.specs.Worst.{readCost}
+use Rattle.drive.specs.Limits.{Between, blockLeast, blockMost, rateMost}
 use Rattle.theory.specs.Rounds.{need}
 use Rattle.verdict.specs.Steps.{spanOf, Short, askedOf, givenMost}
 use Rattle.verdict.specs.declared.round.Span.{Span}
@@ -16,18 +13,18 @@ pub span-asked : (r D t : ℕ) (p : Span) → p ≡ spanOf D t → askedOf r p �
 span-asked r D t p e = rw e (ap (need r D) (div-add-mod t D))
 
 -- The parts, times a rate, fit 64 bits.
-module _ (r : ℕ) (p : Span) (h : r ≤ 100000000) (s : Short p) where
-  pub whole-capped : r * p .whole ≤ 100000000 * 562949953
+module _ (r : ℕ) (p : Span) (h : r ≤ rateMost) (s : Short p) where
+  pub whole-capped : r * p .whole ≤ rateMost * 562949953
   whole-capped = mul-le-mul h (s .many)
 
-  pub part-capped : r * p .part ≤ 100000000 * 65536000000
-  part-capped = let g : p .part ≤ 65536000000 = (let a = s .rest in let b = s .within in omega arith) in mul-le-mul h g
+  pub part-capped : r * p .part ≤ rateMost * (blockMost * 1000000)
+  part-capped = let g : p .part ≤ blockMost * 1000000 = (let a = s .rest in let b = s .within in omega arith) in mul-le-mul h g
 
-  pub sum-capped : r * p .whole + r * p .part / p .unit ≤ 100000000 * 562949953 + 100000000 * 65536000000
+  pub sum-capped : r * p .whole + r * p .part / p .unit ≤ rateMost * 562949953 + rateMost * (blockMost * 1000000)
   sum-capped = add-le-add whole-capped (le-trans (div-le-self (r * p .part) (p .unit)) part-capped)
 
 -- A round of any counts is short enough.
-pub span-short : (A t : ℕ) (p : Span) → Between 512 A 65536 → t < givenMost → p ≡ spanOf (A * 1000000) t → Short p
+pub span-short : (A t : ℕ) (p : Span) → Between blockLeast A blockMost → t < givenMost → p ≡ spanOf (A * 1000000) t → Short p
 span-short A t p h l e =
     let low = h .low in
     let high = h .high in
@@ -38,7 +35,3 @@ span-short A t p h l e =
       rest = mod-lt t (omega arith);
       many = (let q : t / (A * 1000000) < 562949954 = div-lt-iff-lt-mul {k = A * 1000000} {x = t} {y = 562949954} (omega arith) .1 (omega arith) in omega arith);
     })
-
--- What a read costs is within the limits of a cost.
-pub read-limited : (y : Layout) → LayoutWithin y → Limited (readCost y)
-read-limited y w = omega arith

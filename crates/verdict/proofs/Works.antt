@@ -6,7 +6,7 @@ use native.Mathlib.Omega.{arith}
 use native.Mathlib.Nat.{le-refl, mul-le-mul}
 use lib.ListN.{getD}
 use Rattle.drive.specs.declared.Show.{Show}
-use Rattle.drive.specs.Limits.{ShowWithin, layoutAt, sessionAt}
+use Rattle.drive.specs.Limits.{ShowWithin, blockMost, layoutAt, sessionAt}
 use Rattle.cost.specs.Bound.{worstTime, countMost, worstMost}
 use Rattle.cost.specs.Worst.{readCost}
 use Rattle.cost.proofs.Bound.{worst-capped}
@@ -54,20 +54,20 @@ module _ (s : Show) (w : ShowWithin s) where
           (u : ℕ) →
           u ≡ worstTime (s .drive .cylinder) (readCost (layoutAt s (sessionAt s i .layout))) (r * t / unit (loadOf s) + 1) →
           u ≡ loadOf s .stream i .time (asked (loadOf s) t i)
-      time-asked u h = h ∙ time-same s w i l _ ∙ ap (loadOf s .stream i .time) count-asked
+      time-asked u h = h ∙ time-same s i _ ∙ ap (loadOf s .stream i .time) count-asked
 
       -- Where it fits, all of that is small.
       module _ (f : Fits (loadOf s) t) where
         pub count-few : r * t / unit (loadOf s) + 1 < countMost
         count-few = rw count-asked (feasible-few s w (asked (loadOf s) t) f i l)
 
-        pub covered-capped : (r * t / unit (loadOf s) + 1) * unit (loadOf s) ≤ countMost * 65536000000
+        pub covered-capped : (r * t / unit (loadOf s) + 1) * unit (loadOf s) ≤ countMost * (blockMost * 1000000)
         covered-capped =
             let few = count-few in
             let high = w .drive .block .high in
-            mul-le-mul {n₂ = countMost} {m₂ = 65536000000} (omega arith) (omega arith)
+            mul-le-mul {n₂ = countMost} {m₂ = blockMost * 1000000} (omega arith) (omega arith)
 
-        pub work-capped : r * t < countMost * 65536000000
+        pub work-capped : r * t < countMost * (blockMost * 1000000)
         work-capped =
             let below : r * t < (r * t / unit (loadOf s) + 1) * unit (loadOf s) = rw (count-asked, q) (work-below i t) in
             let most = covered-capped in

@@ -3,8 +3,8 @@ use Prim.Native.Nat.{ℕ, _+_, _*_, _/_, _%_, _^_, _≤_, _<_}
 use mathlib.Core.Logic.{_↔_}
 use Rattle.drive.specs.declared.Session.{Session}
 use Rattle.drive.specs.declared.Show.{Show}
-use Rattle.drive.specs.Limits.{Between, sessionAt}
-use Rattle.cost.specs.Bound.{worstMost}
+use Rattle.drive.specs.Limits.{Between, blockLeast, blockMost, bufferMost, sessionAt}
+use Rattle.cost.specs.Bound.{fixedMost, eachMost, crossMost, worstMost}
 use Rattle.theory.specs.Counts.{Load, Feasible, Accepted}
 use Rattle.theory.specs.Rounds.{need, asked, Fits, LeastTime}
 use Rattle.theory.specs.Shows.{loadOf}
@@ -18,7 +18,7 @@ roundMost = 16 * worstMost
 
 -- .. while any count of 32 bits takes this at most, and a round of such counts less than 2 ^ 58.
 abbrev pub timeMost : ℕ
-timeMost = 5000000 + 4294967295 * 4000000
+timeMost = fixedMost + 4294967295 * (eachMost + crossMost)
 
 abbrev pub givenMost : ℕ
 givenMost = 2 ^ 58
@@ -30,7 +30,7 @@ spanOf D t = record { unit = D; whole = t / D; part = t % D }
 -- A span whose parts, times a rate, fit 64 bits.
 pub record Short (p : Span) : Type 0 where
   pub some : 1 ≤ p .unit
-  pub within : p .unit ≤ 65536000000
+  pub within : p .unit ≤ blockMost * 1000000
   pub rest : p .part < p .unit
   pub many : p .whole ≤ 562949953
 
@@ -44,9 +44,9 @@ Room A x m = (m + 1) * A + x .cushion ≤ x .buffer
 
 -- What is known of a session, to tell how long a round its buffer takes.
 pub record Lasting (A : ℕ) (x : Session) : Type 0 where
-  pub block : Between 512 A 65536
+  pub block : Between blockLeast A blockMost
   pub rate : 1 ≤ x .rate
-  pub buffer : x .buffer ≤ 1073741824
+  pub buffer : x .buffer ≤ bufferMost
 
 -- The times below r are those below e over which the session's count has room.
 abbrev pub SoonerIs : ℕ → Session → ℕ → ℕ → Type 0

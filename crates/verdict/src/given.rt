@@ -1,6 +1,6 @@
 // A given count: whether it can stand in a set.
 ghost use Prim.Native.Nat.{_≤_};
-ghost use Rattle.drive.specs.Limits.{Tells};
+ghost use Rattle.drive.specs.Limits.{Tells, blockLeast, rateMost, bufferMost};
 ghost use Rattle.verdict.specs.Steps.{Short, Held};
 use crate::round::Span;
 use crate::round::fits;
@@ -9,7 +9,7 @@ use drive::Session;
 
 // A session's count fits its buffer and is ahead of its rate over the time: so it is at least 1.
 pub(crate) fn held(block: u32, session: Session, span: Span, count: u32) -> bool
-    requires { ⌜ (512 ≤ block) × (session .rate ≤ 100000000) × (session .buffer ≤ 1073741824) × Short span ⌝ }
+    requires { ⌜ (blockLeast ≤ block) × (session .rate ≤ rateMost) × (session .buffer ≤ bufferMost) × Short span ⌝ }
     ensures { λ r. ⌜ Tells r (Held block session span count) ⌝ }
 {
     if !fits(block, session, count as u64) {

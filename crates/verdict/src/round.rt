@@ -1,12 +1,14 @@
 // The least round time that sustains itself, and the counts that it asks for: docs/RULES.md, section 7.
 ghost use mathlib.Core.Path.{_≡_};
 ghost use Prim.Native.Nat.{_*_, _≤_};
-ghost use Rattle.drive.specs.Limits.{Tells, LayoutWithin, ShowWithin};
+ghost use Rattle.drive.specs.Limits.{Tells, LayoutWithin, ShowWithin, blockLeast, rateMost, bufferMost};
 ghost use Rattle.cost.specs.Bound.{worstTime};
 ghost use Rattle.cost.specs.Worst.{readCost};
 ghost use Rattle.theory.specs.Shows.{loadOf};
 ghost use Rattle.verdict.specs.Answers.{row};
 ghost use Rattle.verdict.specs.Steps.{spanOf, Short, askedOf, Room, Lasting, SoonerIs, EndIs, ratesOf, SettledAs, timeMost};
+use cost::Cost;
+use cost::Time;
 use drive::Layout;
 use drive::Session;
 use drive::Show;
@@ -38,7 +40,7 @@ pub(crate) fn split(block: u32, t: u64) -> Span
 
 // The least count that is ahead of the rate over the time.
 pub(crate) fn need(rate: u32, span: Span) -> u64
-    requires { ⌜ (rate ≤ 100000000) × Short span ⌝ }
+    requires { ⌜ (rate ≤ rateMost) × Short span ⌝ }
     ensures { λ r. ⌜ r ≡ askedOf rate span ⌝ }
 {
     let r = rate as u64;
@@ -52,7 +54,7 @@ const COUNT_MOST: u64 = 2_097_152;
 
 // Whether the buffer takes the count and one block more.
 pub(crate) fn fits(block: u32, session: Session, count: u64) -> bool
-    requires { ⌜ (512 ≤ block) × (session .buffer ≤ 1073741824) ⌝ }
+    requires { ⌜ (blockLeast ≤ block) × (session .buffer ≤ bufferMost) ⌝ }
     ensures { λ r. ⌜ Tells r (Room block session count) ⌝ }
 {
     if COUNT_MOST <= count {
@@ -68,14 +70,14 @@ pub(crate) fn fits(block: u32, session: Session, count: u64) -> bool
 
 // U(n) of reads on a layout within its limits.
 pub(crate) fn takes(layout: Layout, cylinder: u32, n: u32) -> u64
-    requires { ⌜ LayoutWithin layout × (1 ≤ cylinder) ⌝ }
+    requires { ⌜ LayoutWithin layout ⌝ }
     ensures { λ r. ⌜ (r ≡ worstTime cylinder (readCost layout) n) × (r ≤ timeMost) ⌝ }
 {
-    let per = cylinder as u64;
-    let edges = (n as u64 + per - 1) / per;
-    let blocks = n as u64 * layout.time as u64;
-    let crossed = edges * layout.track as u64;
-    layout.longest as u64 + 2 * (layout.rotation as u64) + blocks + crossed
+    let cost = Cost::of_read(layout);
+    let Time::Takes(time) = cost.time(cylinder, n) else {
+        return 0;
+    };
+    time
 }
 
 // Past every round of counts that fit.

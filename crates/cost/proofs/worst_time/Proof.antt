@@ -1,27 +1,27 @@
 -- `worst_time` answers U of a session, or the first refusal of 2, 5, 6, 7 and 9. Assumes nothing.
 use mathlib.Core.Path.{_≡_, sym, ap, _∙_}
+use native.Mathlib.Omega.{arith}
 use borrow.Author.Needs.{needs}
 use Rattle.drive.specs.declared.Show.{Show}
 use Rattle.cost.specs.declared.Cost.{Cost}
 use Rattle.cost.specs.declared.Worst.the-variants.{Takes}
 use Rattle.drive.specs.declared.refusal.Check.the-variants.{Within}
 use Rattle.drive.specs.Checks.{showCheck}
-use Rattle.cost.specs.Bound.{Limited, worstTime}
-use Rattle.cost.specs.Worst.{costOf}
+use Rattle.drive.specs.Limits.{ShowWithin}
+use Rattle.cost.specs.Bound.{worstTime}
 use Rattle.drive.proofs.Shows.{check-within}
-use Rattle.cost.proofs.Costs.{cost-limited, worst-refused, worst-nobody, worst-takes}
+use Rattle.cost.proofs.Costs.{laid-below, layout-within, read-limited, cost-read, worst-refused, worst-nobody, worst-takes}
 use Rattle.cost.proofs.worst_time.Statement.{statement}
 use Rattle.cost.proofs.worst_time.Tie as tie
 
 abbrev show : tie.After-enum-told → Show
-show c = c .before .before .before .args .show
+show c = c .before .before .before .args .t1
 
-within : (c : tie.After-enum-told) → showCheck (show c) ≡ Within
-within c = sym (c .before .before .check .ensures) ∙ c .enum-told .given .1
+passed : (c : tie.After-enum-told) → showCheck (show c) ≡ Within
+passed c = sym (c .before .before .check .ensures) ∙ c .enum-told .given .1
 
-limited : (c : tie.Else1) → Limited (costOf (show (c .before .before)) (c .before .before .before .before .before .args .i))
-limited c =
-    cost-limited (show (c .before .before)) (check-within _ (within (c .before .before))) _ (c .if1 .left)
+within : (c : tie.After-enum-told) → ShowWithin (show c)
+within c = check-within _ (passed c)
 
 check-requires : tie.Need-check-requires
 check-requires c κs = search needs
@@ -36,19 +36,38 @@ enum-told : tie.Need-enum-told
 enum-told c = search needs
 
 returns-2 : tie.Need-returns-2
-returns-2 c = sym (worst-nobody _ _ _ (within (c .before .before)) (c .if1 .taken))
+returns-2 c = sym (worst-nobody _ _ _ (passed (c .before)) (c .if1 .taken))
 
-cost-of-requires : tie.Need-cost-of-requires
-cost-of-requires c κs = search needs
+mul-session : tie.Need-mul-session
+mul-session c = let h = within (c .before) .counts .sessions in let l = c .if1 .left in omega arith
+
+element-copy-out-session : tie.Need-element-copy-out-session
+element-copy-out-session c = let h = within (c .before) .counts .sessions in let l = c .if1 .left in omega arith
+
+cast-at : tie.Need-cast-at
+cast-at c = search needs
+
+mul-of-read : tie.Need-mul-of-read
+mul-of-read c = search needs
+
+element-copy-out-of-read : tie.Need-element-copy-out-of-read
+element-copy-out-of-read c = let h = laid-below _ (within (c .before .before .before)) _ (c .before .before .if1 .left) in omega arith
+
+of-read-requires : tie.Need-of-read-requires
+of-read-requires c κs = search needs
 
 bound-requires : tie.Need-bound-requires
-bound-requires c κs = rw (c .cost-of .ensures) (limited (c .before))
+bound-requires c κs =
+    let d = c .before .before .before .before in
+    rw (c .of-read .ensures) (read-limited _ (layout-within _ (within (d .before)) _ (d .if1 .left)))
 
 returns-3 : tie.Need-returns-3
 returns-3 c =
-    let a = c .before .before .before .before .before .before .before .args in
-    ap Takes (c .bound .ensures ∙ ap (λ (x : Cost). worstTime (a .show .drive .cylinder) x (a .n)) (c .before .cost-of .ensures))
-    ∙ sym (worst-takes _ _ _ (within (c .before .before .before .before)) (c .before .before .if1 .left))
+    let d = c .before .before .before .before .before in
+    let a = d .before .before .before .before .args in
+    let cost = c .before .of-read .ensures ∙ cost-read (a .t1) (a .i) in
+    ap Takes (c .bound .ensures ∙ ap (λ (x : Cost). worstTime (a .t1 .drive .cylinder) x (a .n)) cost)
+    ∙ sym (worst-takes _ _ _ (passed (d .before)) (d .if1 .left))
 
 pub worst-time-spec : {M : Type 1} → statement M
 worst-time-spec =
@@ -59,6 +78,11 @@ worst-time-spec =
     returns
     enum-told
     returns-2
-    cost-of-requires
+    mul-session
+    element-copy-out-session
+    cast-at
+    mul-of-read
+    element-copy-out-of-read
+    of-read-requires
     bound-requires
     returns-3)

@@ -3,12 +3,12 @@ use mathlib.Core.Path.{_∙_, ap}
 use native.Mathlib.Omega.{arith}
 use borrow.Author.Needs.{needs}
 use Rattle.drive.proofs.Lists.{filled-none}
-use Rattle.cost.proofs.Costs.{layout-within}
+use Rattle.cost.proofs.Costs.{laid-below, layout-within}
 use Rattle.theory.specs.Rounds.{asked}
 use Rattle.theory.specs.Shows.{loadOf}
 use Rattle.verdict.specs.declared.Verdict.the-variants as verdict
 use Rattle.verdict.proofs.Spans.{span-short}
-use Rattle.verdict.proofs.Sets.{Filled, row-begun, row-body, row-ended, TimedTo, times-begun, times-body, times-ended, laid-below, time-same}
+use Rattle.verdict.proofs.Sets.{Filled, row-begun, row-body, row-ended, TimedTo, times-begun, times-body, times-ended, time-same}
 use Rattle.verdict.proofs.Works.{asked-same, asked-few}
 use Rattle.verdict.proofs.accepted.Statement.{statement}
 use Rattle.verdict.proofs.accepted.Tie as tie
@@ -47,7 +47,7 @@ cast-takes : tie.Need-cast-takes Inv-loop μ-loop
 cast-takes c = let e = c .before .need .ensures in let f = asked-few _ (c .before .before .before .before .before .before .before .before .pre .0) _ _ _ (c .before .before .before .before .before .before .split .ensures) (c .before .before .before .before .loop-test .taken) (c .before .before .before .before .before .before .before .before .pre .1 .fits) in omega (arith, e, f)
 
 takes-requires : tie.Need-takes-requires Inv-loop μ-loop
-takes-requires c κs = (layout-within _ (c .before .before .before .before .before .before .before .before .pre .0) _ (c .before .before .before .before .loop-test .taken), c .before .before .before .before .before .before .before .before .pre .0 .drive .cylinder .low)
+takes-requires c κs = layout-within _ (c .before .before .before .before .before .before .before .before .pre .0) _ (c .before .before .before .before .loop-test .taken)
 
 cast-counts : tie.Need-cast-counts Inv-loop μ-loop
 cast-counts c = let e = c .before .before .need .ensures in let f = asked-few _ (c .before .before .before .before .before .before .before .before .before .pre .0) _ _ _ (c .before .before .before .before .before .before .before .split .ensures) (c .before .before .before .before .before .loop-test .taken) (c .before .before .before .before .before .before .before .before .before .pre .1 .fits) in omega (arith, e, f)
@@ -74,7 +74,7 @@ loop-less : tie.Need-loop-less Inv-loop μ-loop
 loop-less c = let l = c .before .before .before .before .before .loop-test .taken in omega arith
 
 loop-again : tie.Need-loop-again Inv-loop μ-loop
-loop-again c = let w = c .before .before .before .before .before .before .before .before .before .pre .0 in let l = c .before .before .before .before .before .loop-test .taken in let e = c .before .before .need .ensures ∙ asked-same _ w _ _ _ (c .before .before .before .before .before .before .before .split .ensures) in (row-body _ _ _ _ _ w (c .before .before .before .before .before .before .loop .inv .0) l e, times-body _ _ _ _ _ _ w (c .before .before .before .before .before .before .loop .inv .1) l (c .takes .ensures .0 ∙ time-same _ w _ l _ ∙ ap (loadOf _ .stream _ .time) e) (c .takes .ensures .1))
+loop-again c = let w = c .before .before .before .before .before .before .before .before .before .pre .0 in let l = c .before .before .before .before .before .loop-test .taken in let e = c .before .before .need .ensures ∙ asked-same _ w _ _ _ (c .before .before .before .before .before .before .before .split .ensures) in (row-body _ _ _ _ _ w (c .before .before .before .before .before .before .loop .inv .0) l e, times-body _ _ _ _ _ _ w (c .before .before .before .before .before .before .loop .inv .1) l (c .takes .ensures .0 ∙ time-same _ _ _ ∙ ap (loadOf _ .stream _ .time) e) (c .takes .ensures .1))
 
 returns : tie.Need-returns Inv-loop μ-loop
 returns c = let w = c .before .before .before .before .pre .0 in let r = times-ended _ _ _ _ _ w (c .before .loop .inv .1) (c .loop-test .left) in let m = row-ended _ _ _ _ (c .before .loop .inv .0) (c .loop-test .left) in (λ j. record { verdict = verdict.Accepted; round = r .0 j; counts = m j; times = r .1 j })

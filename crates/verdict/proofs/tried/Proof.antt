@@ -8,11 +8,11 @@ use Rattle.drive.specs.Limits.{ShowWithin}
 use Rattle.drive.proofs.Shows.{check-within}
 use Rattle.drive.proofs.Checks.{tells-yes, tells-no}
 use Rattle.drive.proofs.Lists.{filled-none}
-use Rattle.cost.proofs.Costs.{layout-within}
+use Rattle.cost.proofs.Costs.{laid-below, layout-within}
 use Rattle.theory.specs.Shows.{loadOf}
 use Rattle.verdict.specs.Answers.{setOf, untried}
 use Rattle.verdict.proofs.Spans.{span-short}
-use Rattle.verdict.proofs.Sets.{TimedTo, times-begun, times-body, times-ended, laid-below, time-same, HeldTo, held-begun, held-body, held-ended, held-broken, trial-holds, trial-fails}
+use Rattle.verdict.proofs.Sets.{TimedTo, times-begun, times-body, times-ended, time-same, HeldTo, held-begun, held-body, held-ended, held-broken, trial-holds, trial-fails}
 use borrow.Author.Needs.{needs}
 use Rattle.verdict.proofs.tried.Statement.{statement}
 use Rattle.verdict.proofs.tried.Tie as tie
@@ -70,7 +70,7 @@ array-read-takes : tie.Need-array-read-takes Inv-loop μ-loop Inv-loop2 μ-loop2
 array-read-takes c = let h = within (c .before .before .before .before .before .before) .counts .sessions in let l = c .before .before .before .loop-test .taken in omega arith
 
 takes-requires : tie.Need-takes-requires Inv-loop μ-loop Inv-loop2 μ-loop2
-takes-requires c κs = (layout-within _ (within (c .before .before .before .before .before .before)) _ (c .before .before .before .loop-test .taken), within (c .before .before .before .before .before .before) .drive .cylinder .low)
+takes-requires c κs = layout-within _ (within (c .before .before .before .before .before .before)) _ (c .before .before .before .loop-test .taken)
 
 mul-times : tie.Need-mul-times Inv-loop μ-loop Inv-loop2 μ-loop2
 mul-times c = let h = within (c .before .before .before .before .before .before .before) .counts .sessions in let l = c .before .before .before .before .loop-test .taken in omega arith
@@ -96,7 +96,7 @@ loop-again : tie.Need-loop-again Inv-loop μ-loop Inv-loop2 μ-loop2
 loop-again c =
     let e = c .takes .ensures in
     let l = c .before .before .before .before .loop-test .taken in
-    times-body _ _ _ _ _ _ (within (c .before .before .before .before .before .before .before)) (c .before .before .before .before .before .loop .inv) l (e .0 ∙ time-same _ (within (c .before .before .before .before .before .before .before)) _ l _) (e .1)
+    times-body _ _ _ _ _ _ (within (c .before .before .before .before .before .before .before)) (c .before .before .before .before .before .loop .inv) l (e .0 ∙ time-same _ _ _) (e .1)
 
 split-requires : tie.Need-split-requires Inv-loop μ-loop Inv-loop2 μ-loop2
 split-requires c κs = let h = within (c .before .before .before) .drive .block .low in omega arith

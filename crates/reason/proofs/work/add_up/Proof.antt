@@ -1,16 +1,26 @@
 -- `add_up` adds up session by session. Invariant: the sums of the first i; what falls: playing - i. Assumes nothing.
-use Prim.Native.Nat.{_-_}
+use Prim.Native.Nat.{_-_, _<_}
+use mathlib.Core.Path.{_≡_, _∙_}
 use native.Mathlib.Omega.{arith}
+use Rattle.drive.specs.Limits.{ShowWithin}
+use Rattle.cost.specs.Worst.{costOf}
+use Rattle.cost.proofs.Costs.{laid-below, cost-read}
 use Rattle.reason.proofs.Loads.{SumsTo, sums-begun, sums-body, sums-ended, blocks-capped, edges-capped}
 use borrow.Author.Needs.{needs}
 use Rattle.reason.proofs.work.add_up.Statement.{statement}
 use Rattle.reason.proofs.work.add_up.Tie as tie
 
 abbrev Inv-loop : tie.InvT-loop
-Inv-loop show costs blocks₀ edges₀ i₀ blocks edges i = SumsTo show blocks edges i
+Inv-loop show blocks₀ edges₀ i₀ blocks edges i = SumsTo show blocks edges i
 
 abbrev μ-loop : tie.MeasureT-loop
-μ-loop show costs blocks₀ edges₀ i₀ blocks edges i = show .playing - i
+μ-loop show blocks₀ edges₀ i₀ blocks edges i = show .playing - i
+
+-- what the operations of the session at hand cost
+cost :
+    (c : tie.After-of-read Inv-loop μ-loop) →
+    c .of-read .result ≡ costOf (c .before .before .before .before .before .before .args .t1) (c .before .before .before .before .before .loop .i)
+cost c = c .of-read .ensures ∙ cost-read _ _
 
 loop-holds : tie.Need-loop-holds Inv-loop μ-loop
 loop-holds c = sums-begun _
@@ -19,28 +29,56 @@ mul-session : tie.Need-mul-session Inv-loop μ-loop
 mul-session c = search needs
 
 element-copy-out-session : tie.Need-element-copy-out-session Inv-loop μ-loop
-element-copy-out-session c = let n = c .before .before .pre .0 .counts .sessions in let l = c .loop-test .taken in omega arith
+element-copy-out-session c = let n = c .before .before .pre .counts .sessions in let l = c .loop-test .taken in omega arith
 
-mul-cost : tie.Need-mul-cost Inv-loop μ-loop
-mul-cost c = search needs
+cast-at : tie.Need-cast-at Inv-loop μ-loop
+cast-at c = search needs
 
-array-copy-out-cost : tie.Need-array-copy-out-cost Inv-loop μ-loop
-array-copy-out-cost c = let n = c .before .before .before .pre .0 .counts .sessions in let l = c .before .loop-test .taken in omega arith
+mul-of-read : tie.Need-mul-of-read Inv-loop μ-loop
+mul-of-read c = search needs
+
+element-copy-out-of-read : tie.Need-element-copy-out-of-read Inv-loop μ-loop
+element-copy-out-of-read c = let h = laid-below _ (c .before .before .before .before .pre) _ (c .before .before .loop-test .taken) in omega arith
+
+of-read-requires : tie.Need-of-read-requires Inv-loop μ-loop
+of-read-requires c κs = search needs
 
 cast-rate : tie.Need-cast-rate Inv-loop μ-loop
 cast-rate c = search needs
 
 mul-blocks : tie.Need-mul-blocks Inv-loop μ-loop
-mul-blocks c = let h = blocks-capped _ (c .before .before .before .before .before .before .pre .0) _ (c .before .before .before .before .before .before .pre .1) _ (c .before .before .before .before .loop-test .taken) in omega arith
+mul-blocks c =
+    let d = c .before .before in
+    let e = d .before .before .before .before in
+    let h = blocks-capped _ (e .before .before .pre) _ (e .loop-test .taken) _ (cost d) in
+    omega arith
 
 add-blocks : tie.Need-add-blocks Inv-loop μ-loop
-add-blocks c = let h = blocks-capped _ (c .before .before .before .before .before .before .pre .0) _ (c .before .before .before .before .before .before .pre .1) _ (c .before .before .before .before .loop-test .taken) in let k = c .before .before .before .before .before .loop .inv .blocks-few in let n = c .before .before .before .before .before .before .pre .0 .counts .sessions in let l = c .before .before .before .before .loop-test .taken in omega arith
+add-blocks c =
+    let d = c .before .before in
+    let e = d .before .before .before .before in
+    let h = blocks-capped _ (e .before .before .pre) _ (e .loop-test .taken) _ (cost d) in
+    let k = e .before .loop .inv .blocks-few in
+    let n = e .before .before .pre .counts .sessions in
+    let l = e .loop-test .taken in
+    omega arith
 
 mul-edges : tie.Need-mul-edges Inv-loop μ-loop
-mul-edges c = let h = edges-capped _ (c .before .before .before .before .before .before .before .pre .0) _ (c .before .before .before .before .before .before .before .pre .1) _ (c .before .before .before .before .before .loop-test .taken) in omega arith
+mul-edges c =
+    let d = c .before .before .before in
+    let e = d .before .before .before .before in
+    let h = edges-capped _ (e .before .before .pre) _ (e .loop-test .taken) _ (cost d) in
+    omega arith
 
 add-edges : tie.Need-add-edges Inv-loop μ-loop
-add-edges c = let h = edges-capped _ (c .before .before .before .before .before .before .before .pre .0) _ (c .before .before .before .before .before .before .before .pre .1) _ (c .before .before .before .before .before .loop-test .taken) in let k = c .before .before .before .before .before .before .loop .inv .edges-few in let n = c .before .before .before .before .before .before .before .pre .0 .counts .sessions in let l = c .before .before .before .before .before .loop-test .taken in omega arith
+add-edges c =
+    let d = c .before .before .before in
+    let e = d .before .before .before .before in
+    let h = edges-capped _ (e .before .before .pre) _ (e .loop-test .taken) _ (cost d) in
+    let k = e .before .loop .inv .edges-few in
+    let n = e .before .before .pre .counts .sessions in
+    let l = e .loop-test .taken in
+    omega arith
 
 add-i : tie.Need-add-i Inv-loop μ-loop
 add-i c = search needs
@@ -49,10 +87,13 @@ loop-less : tie.Need-loop-less Inv-loop μ-loop
 loop-less c = search needs
 
 loop-again : tie.Need-loop-again Inv-loop μ-loop
-loop-again c = sums-body _ (c .before .before .before .before .before .before .before .pre .0) _ (c .before .before .before .before .before .before .before .pre .1) _ (c .before .before .before .before .before .loop-test .taken) _ _ (c .before .before .before .before .before .before .loop .inv)
+loop-again c =
+    let d = c .before .before .before in
+    let e = d .before .before .before .before in
+    sums-body _ (e .before .before .pre) _ (e .loop-test .taken) _ (cost d) _ _ (e .before .loop .inv)
 
 returns : tie.Need-returns Inv-loop μ-loop
-returns c = sums-ended _ (c .before .before .pre .0) _ _ (c .before .loop .inv) (c .loop-test .left)
+returns c = sums-ended _ (c .before .before .pre) _ _ (c .before .loop .inv) (c .loop-test .left)
 
 pub add-up-spec : {M : Type 1} → statement M
 add-up-spec =
@@ -63,8 +104,10 @@ add-up-spec =
     loop-holds
     mul-session
     element-copy-out-session
-    mul-cost
-    array-copy-out-cost
+    cast-at
+    mul-of-read
+    element-copy-out-of-read
+    of-read-requires
     cast-rate
     mul-blocks
     add-blocks

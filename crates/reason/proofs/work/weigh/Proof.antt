@@ -5,9 +5,6 @@ use borrow.Author.Needs.{needs}
 use Rattle.reason.proofs.work.weigh.Statement.{statement}
 use Rattle.reason.proofs.work.weigh.Tie as tie
 
-costs-of-requires : tie.Need-costs-of-requires
-costs-of-requires c κs = search needs
-
 add-up-requires : tie.Need-add-up-requires
 add-up-requires c κs = search needs
 
@@ -21,37 +18,36 @@ mul-unit : tie.Need-mul-unit
 mul-unit c = search needs
 
 mul-full : tie.Need-mul-full
-mul-full c = let h = full-capped _ (c .before .before .before .before .pre) _ (c .before .before .add-up .ensures .1) in omega arith
+mul-full c = let h = full-capped _ (c .before .before .before .pre) _ (c .before .before .add-up .ensures .1) in omega arith
 
 rem-left : tie.Need-rem-left
 rem-left c = search needs
 
 mul-left : tie.Need-mul-left
-mul-left c = let h = left-capped _ (c .before .before .before .before .before .pre) _ (c .before .before .before .add-up .ensures .1) in omega arith
+mul-left c = let h = left-capped _ (c .before .before .before .before .pre) _ (c .before .before .before .add-up .ensures .1) in omega arith
 
 add-left : tie.Need-add-left
-add-left c = let h = left-capped _ (c .before .before .before .before .before .before .pre) _ (c .before .before .before .before .add-up .ensures .1) in let g = c .before .before .before .before .add-up .ensures .1 .edges in omega arith
+add-left c = let h = left-capped _ (c .before .before .before .before .before .pre) _ (c .before .before .before .before .add-up .ensures .1) in let g = c .before .before .before .before .add-up .ensures .1 .edges in omega arith
+
+div-t7 : tie.Need-div-t7
+div-t7 c = search needs
 
 div-t8 : tie.Need-div-t8
-div-t8 c = search needs
+div-t8 c = full-some _ (c .before .before .before .before .before .before .pre) _ (c .before .before .before .before .before .add-up .ensures .1)
 
-div-t9 : tie.Need-div-t9
-div-t9 c = full-some _ (c .before .before .before .before .before .before .before .pre) _ (c .before .before .before .before .before .add-up .ensures .1)
+add-t9 : tie.Need-add-t9
+add-t9 c = let h = whole-capped _ (c .before .before .before .before .before .before .pre) _ (c .before .before .before .before .before .add-up .ensures .1) in omega arith
 
-add-t10 : tie.Need-add-t10
-add-t10 c = let h = whole-capped _ (c .before .before .before .before .before .before .before .pre) _ (c .before .before .before .before .before .add-up .ensures .1) in omega arith
-
-rem-t11 : tie.Need-rem-t11
-rem-t11 c = full-some _ (c .before .before .before .before .before .before .before .pre) _ (c .before .before .before .before .before .add-up .ensures .1)
+rem-t10 : tie.Need-rem-t10
+rem-t10 c = full-some _ (c .before .before .before .before .before .before .pre) _ (c .before .before .before .before .before .add-up .ensures .1)
 
 returns : tie.Need-returns
-returns c = weighed _ (c .before .before .before .before .before .before .before .pre) _ (c .before .before .before .before .before .add-up .ensures .1) (c .before .before .before .before .before .add-up .ensures .0)
+returns c = weighed _ (c .before .before .before .before .before .before .pre) _ (c .before .before .before .before .before .add-up .ensures .1) (c .before .before .before .before .before .add-up .ensures .0)
 
 pub weigh-spec : {M : Type 1} → statement M
 weigh-spec =
     tie.close
     (tie.spec
-    costs-of-requires
     add-up-requires
     cast-cylinder
     cast-unit
@@ -60,8 +56,8 @@ weigh-spec =
     rem-left
     mul-left
     add-left
+    div-t7
     div-t8
-    div-t9
-    add-t10
-    rem-t11
+    add-t9
+    rem-t10
     returns)

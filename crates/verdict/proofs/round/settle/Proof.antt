@@ -9,12 +9,11 @@ use borrow.Author.Needs.{needs}
 use lib.ListN.{getD, set}
 use Rattle.drive.specs.declared.Show.{Show}
 use Rattle.drive.specs.Limits.{ShowWithin}
-use Rattle.cost.proofs.Costs.{layout-within}
+use Rattle.cost.proofs.Costs.{laid-below, layout-within}
 use Rattle.theory.specs.Counts.{unit}
 use Rattle.theory.specs.Rounds.{asked, Fits}
 use Rattle.theory.specs.Shows.{loadOf}
 use Rattle.verdict.specs.Steps.{ratesOf}
-use Rattle.verdict.proofs.Sets.{laid-below}
 use Rattle.verdict.proofs.Ends.{fits-early, none-late, none-begun}
 use Rattle.verdict.proofs.Works.{rate-at, count-asked, time-asked, count-few, covered-capped, work-capped}
 use Rattle.verdict.proofs.Turns.{Search, Turned, begun, stays, part, later-below, later-small, changes, turn-begun, settled}
@@ -110,7 +109,7 @@ cast-takes : tie.Need-cast-takes Inv-loop2 μ-loop2 Inv-loop μ-loop
 cast-takes c = omega (arith, count-few _ (within (c .before .before .before .before)) _ _ _ (rate (c .before .before .before .before)) (c .before .before .before .before .loop2-test .taken) (fits (c .before .before .before .before)))
 
 takes-requires : tie.Need-takes-requires Inv-loop2 μ-loop2 Inv-loop μ-loop
-takes-requires c κs = (layout-within _ (within (c .before .before .before .before)) _ (c .before .before .before .before .loop2-test .taken), within (c .before .before .before .before) .drive .cylinder .low)
+takes-requires c κs = layout-within _ (within (c .before .before .before .before)) _ (c .before .before .before .before .loop2-test .taken)
 
 time :
     (c : tie.After-takes Inv-loop2 μ-loop2 Inv-loop μ-loop) →

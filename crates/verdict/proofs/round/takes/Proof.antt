@@ -1,80 +1,54 @@
--- `takes` answers U of reads on a layout. Assumes nothing.
-use Prim.Native.Nat.{_+_, _*_, _-_, _/_, _≤_}
-use mathlib.Core.Path.{refl}
+-- `takes` answers U of reads on a layout, by the one call that works U out. Assumes nothing.
+use Prim.Native.Nat.{ℕ, _≤_}
+use mathlib.Core.Path.{_≡_, sym, ap, subst, _∙_}
 use native.Mathlib.Omega.{arith}
-use Rattle.cost.specs.Bound.{ceil, edges, worstTime}
-use Rattle.cost.specs.Worst.{readCost}
-use Rattle.cost.proofs.Bound.{PartsCapped, parts-capped, worst-below}
-use Rattle.verdict.proofs.Spans.{read-limited}
+use Rattle.cost.specs.declared.Cost.{Cost}
+use Rattle.cost.specs.declared.Time.the-variants.{Takes, Beyond}
+use Rattle.cost.specs.Bound.{worstTime}
+use Rattle.cost.specs.Worst.{readCost, timeOf}
+use Rattle.cost.proofs.Bound.{worst-below}
+use Rattle.cost.proofs.Costs.{read-limited, time-takes}
 use borrow.Author.Needs.{needs}
+use Rattle.verdict.specs.Steps.{timeMost}
 use Rattle.verdict.proofs.round.takes.Statement.{statement}
 use Rattle.verdict.proofs.round.takes.Tie as tie
 
-parts : (c : tie.Start) → PartsCapped (c .args .cylinder) 4294967295 (readCost (c .args .layout)) (c .args .n)
-parts c = parts-capped _ 4294967295 _ (read-limited _ (c .pre .0)) _ (omega arith)
+-- A layout within its limits has a cost that is answered.
+takes-beyond : {X : Type 0} {t : ℕ} → Takes t ≡ Beyond → X
+takes-beyond e = let z : _≡_ {A = ℕ} 0 1 = cc in absurd (let f : ⊥ = omega arith in f)
 
-crossed : (c : tie.Start) → (c .args .n + c .args .cylinder - 1) / c .args .cylinder * c .args .layout .track ≤ 4294967295 * 1000000
-unfolding edges ceil
-crossed c = parts c .crossed
+same-time : {t u : ℕ} → Takes t ≡ Takes u → t ≡ u
+same-time e = cc
 
-add-edges : tie.Need-add-edges
-add-edges c = search needs
+answered :
+    (c : tie.After-time) →
+    c .time .result ≡ Takes (worstTime (c .before .before .args .cylinder) (readCost (c .before .before .args .layout)) (c .before .before .args .n))
+answered c =
+    let a = c .before .before .args in
+    c .time .ensures ∙ ap (λ (x : Cost). timeOf x (a .cylinder) (a .n)) (c .before .of-read .ensures)
+    ∙ time-takes _ (read-limited _ (c .before .before .pre)) _ _
 
-sub-edges : tie.Need-sub-edges
-sub-edges c = search needs
+of-read-requires : tie.Need-of-read-requires
+of-read-requires c κs = search needs
 
-div-edges : tie.Need-div-edges
-div-edges c = search needs
+time-requires : tie.Need-time-requires
+time-requires c κs = search needs
 
-cast-blocks : tie.Need-cast-blocks
-cast-blocks c = search needs
+enum-known-time : tie.Need-enum-known-time
+enum-known-time c = search needs
 
-mul-blocks : tie.Need-mul-blocks
-mul-blocks c = let p = parts (c .before) .blocks in omega arith
-
-cast-crossed : tie.Need-cast-crossed
-cast-crossed c = search needs
-
-mul-crossed : tie.Need-mul-crossed
-mul-crossed c = let p = crossed (c .before .before) in omega arith
-
-cast-result : tie.Need-cast-result
-cast-result c = search needs
-
-cast-result-2 : tie.Need-cast-result-2
-cast-result-2 c = search needs
-
-mul-result : tie.Need-mul-result
-mul-result c = search needs
-
-add-result : tie.Need-add-result
-add-result c = search needs
-
-add-result-2 : tie.Need-add-result-2
-add-result-2 c = let p = parts (c .before .before .before .before) .blocks in let w = c .before .before .before .before .pre .0 in omega arith
-
-add-result-3 : tie.Need-add-result-3
-add-result-3 c = let p = parts (c .before .before .before .before) .blocks in let q = crossed (c .before .before .before .before) in let w = c .before .before .before .before .pre .0 in omega arith
+enum-told : tie.Need-enum-told
+enum-told c = search needs
 
 returns : tie.Need-returns
-unfolding worstTime edges ceil
-returns c = (refl, worst-below _ 4294967295 _ (read-limited _ (c .before .before .before .before .pre .0)) _ (omega arith))
+returns c = takes-beyond (sym (answered (c .before .before)) ∙ c .enum-told .given .1)
+
+returns-2 : tie.Need-returns-2
+returns-2 c =
+    let a = c .before .before .before .before .before .args in
+    let e = same-time (sym (c .before .time2 .given .1) ∙ answered (c .before .before .before)) in
+    (e, subst (λ (t : ℕ). t ≤ timeMost) (sym e) (worst-below (a .cylinder) 4294967295 _ (read-limited _ (c .before .before .before .before .before .pre)) (a .n) (omega arith)))
 
 pub takes-spec : {M : Type 1} → statement M
 takes-spec =
-    tie.close
-    (tie.spec
-    add-edges
-    sub-edges
-    div-edges
-    cast-blocks
-    mul-blocks
-    cast-crossed
-    mul-crossed
-    cast-result
-    cast-result-2
-    mul-result
-    add-result
-    add-result-2
-    add-result-3
-    returns)
+    tie.close (tie.spec of-read-requires time-requires enum-known-time enum-told returns returns-2)
