@@ -11,8 +11,9 @@
  * many elements as the length says and is aligned for them; it is not NULL, but where the length is 0; and what one call is lent to
  * write does not overlap anything else that it is lent.
  *
- * A yes is 0. A no is one number, which holds two: chikchiro_number says which rule was broken and chikchiro_place where. After a no
- * every element of every array is what it was.
+ * chikchiro_decide and chikchiro_reason answer 0 where nothing is refused. A no of theirs is one number, which holds two:
+ * chikchiro_number says which rule was broken and chikchiro_place where. chikchiro_report answers a length, and there 0 is its one
+ * refusal. After a refusal every element of every array is what it was.
  */
 #ifndef CHIKCHIRO_H
 #define CHIKCHIRO_H
@@ -42,11 +43,11 @@ enum {
     CHIKCHIRO_DRIVE_LIMITS = 5,   /* block size or blocks per cylinder */
     CHIKCHIRO_LAYOUT_LIMITS = 6,  /* the place is the layout's number, from 0 */
     CHIKCHIRO_SESSION_LIMITS = 7, /* the place is the session's number, from 0 */
-    CHIKCHIRO_NO_SET = 8,         /* the drive does not keep up: chikchiro_reason says why */
+    CHIKCHIRO_NO_SET = 8,         /* no set of counts keeps up and fits the buffers: chikchiro_reason says why */
     CHIKCHIRO_SHORT = 16          /* an array is too short; told before anything else is looked at */
 };
 
-/* Of an answer that is not 0: the number, and the place, which is 0 but for 6 and 7. */
+/* Of an answer of chikchiro_decide or chikchiro_reason that is not 0: the number, and the place, which is 0 but for 6 and 7. */
 static inline uint64_t chikchiro_number(uint64_t answer) { return answer % 256; }
 static inline uint64_t chikchiro_place(uint64_t answer) { return answer / 256; }
 
