@@ -1,7 +1,7 @@
 -- Demand 3: make an accepted show lighter and nothing gets worse. proofs/Lighter.antt and proofs/Spare.antt prove it.
 use Prim.Native.Nat.{ℕ, _≤_, _<_}
 use mathlib.Core.Path.{_≡_}
-use lib.IntN.{ℤ}
+use lib.IntN.{ℤ, pos}
 use lib.Signed.{_≤ℤ_, _<ℤ_}
 use Rattle.drive.specs.declared.Show.{Show}
 use Rattle.drive.specs.Limits.{ShowWithin}
@@ -15,8 +15,9 @@ use Rattle.run.specs.declared.Run.{Run}
 use Rattle.run.specs.Run.{playing}
 use Rattle.spare.specs.declared.Spare.the-variants.{Time}
 use Rattle.spare.specs.Answers.{workaheadOf, slackOf}
-use Rattle.spare.specs.Laws.{Cushioned, Lightly}
+use Rattle.spare.specs.Laws.{Steady, Lightly}
 use Rattle.promises.specs.Files.{Shaped}
+use Rattle.promises.specs.Reasons.{loadSum, fullLoad}
 use Rattle.promises.specs.Runs.{RunOf}
 
 -- Accepted again; no count, time or round is larger. Session i stood at place e i before.
@@ -35,8 +36,10 @@ pub record Lighter : Type 0 where
   pub fewer :
       (b : Show) (k : ℕ) → Shaped b → k < b .playing → (d f : Decision) → DecisionIs (without k b) d → DecisionIs b f →
       f .verdict ≡ verdict.Accepted → NoWorse (without k b .playing) (stoodAt k) d f
-  -- The drive has no more to do, in tenths of a per cent.
-  pub load : (a b : Show) (e : ℕ → ℕ) → Lightened a b e → tenths (loadOf a) ≤ tenths (loadOf b)
+  -- The drive has no more to do: the sum is no larger, of the same full load; and so it is in tenths of a per cent.
+  pub load : (a b : Show) (e : ℕ → ℕ) → Lightened a b e → loadSum a ≤ loadSum b
+  pub full : (a b : Show) (e : ℕ → ℕ) → Lightened a b e → fullLoad a ≡ fullLoad b
+  pub told : (a b : Show) (e : ℕ → ℕ) → Lightened a b e → tenths (loadOf a) ≤ tenths (loadOf b)
 
 -- ---- spare time
 
@@ -52,13 +55,20 @@ pub record Worse : Type 0 where
   pub worse : less <ℤ more
 
 pub record Spare : Type 0 where
-  -- Where a session of the lighter run is not behind its cushion, its workahead is no smaller; where none is, neither is the slack.
+  -- A session of the lighter run that plays at the rate it had, or that is not behind its cushion, has no less workahead; where each is so,
+  -- the slack is no smaller.
   pub workahead :
-      (a b : Run) (e : ℕ → ℕ) → Lightly a b e → (i : ℕ) (y z : ℤ) → Cushioned a i → workaheadOf a i .spare ≡ Time z →
+      (a b : Run) (e : ℕ → ℕ) → Lightly a b e → (i : ℕ) (y z : ℤ) → Steady a b i (e i) → workaheadOf a i .spare ≡ Time z →
       workaheadOf b (e i) .spare ≡ Time y → y ≤ℤ z
   pub slack :
-      (a b : Run) (e : ℕ → ℕ) → Lightly a b e → (y z : ℤ) → ((i : ℕ) → i < playing a → Cushioned a i) → slackOf a .spare ≡ Time z →
+      (a b : Run) (e : ℕ → ℕ) → Lightly a b e → (y z : ℤ) → ((i : ℕ) → i < playing a → Steady a b i (e i)) → slackOf a .spare ≡ Time z →
       slackOf b .spare ≡ Time y → y ≤ℤ z
+  -- Where the heavier run's slack is 0 or more nothing more is asked: the lighter's is no smaller, and so 0 or more.
+  pub kept :
+      (a b : Run) (e : ℕ → ℕ) → Lightly a b e → (y z : ℤ) → slackOf a .spare ≡ Time z → slackOf b .spare ≡ Time y → pos 0 ≤ℤ y → y ≤ℤ z
+  pub enough :
+      (a b : Run) (e : ℕ → ℕ) → Lightly a b e → (y z : ℤ) → slackOf a .spare ≡ Time z → slackOf b .spare ≡ Time y → pos 0 ≤ℤ y →
+      pos 0 ≤ℤ z
   -- The proviso is needed.
   pub proviso : Worse
   -- Every run of a show holds its smallest counts, whatever calls came before.
