@@ -1,4 +1,5 @@
--- Spare time: lighter runs, by the laws of lighter runs; and two opened runs that show the proviso is needed. Assumes nothing.
+-- Spare time: lighter runs, by the laws of lighter runs; and pairs of runs in numbers, one of which shows that the proviso is needed.
+-- Assumes nothing.
 use Prim.Native.Nat.{ℕ, _<_}
 use mathlib.Core.Path.{_≡_, sym, subst}
 use lib.IntN.{ℤ, pos}
@@ -18,7 +19,7 @@ use Rattle.spare.proofs.Lighter.{ahead-lighter, spare-lighter, spare-kept}
 use Rattle.promises.specs.Runs.{RunOf}
 use Rattle.promises.specs.Lighter as specs
 use Rattle.promises.proofs.Runs.{always}
-use Rattle.promises.proofs.Worked.{worse}
+use Rattle.promises.proofs.Compared.{one-left, half-rate, worse}
 
 workahead :
     (a b : Run) (e : ℕ → ℕ) → Lightly a b e → (i : ℕ) (y z : ℤ) → Steady a b i (e i) → workaheadOf a i .spare ≡ Time z →
@@ -51,6 +52,8 @@ spare =
       slack = slack;
       kept = kept;
       enough = λ a b e h y z p q n. ≤ℤ-trans n (kept a b e h y z p q n);
+      left-out = one-left;
+      half-rate = half-rate;
       proviso = worse;
       smallest = smallest;
     }

@@ -1,8 +1,11 @@
 -- Demand 3: make an accepted show lighter and nothing gets worse. proofs/Lighter.antt and proofs/Spare.antt prove it.
 use Prim.Native.Nat.{ℕ, _≤_, _<_}
 use mathlib.Core.Path.{_≡_}
-use lib.IntN.{ℤ, pos}
+use mathlib.Core.Bool.{false}
+use mathlib.Core.List.{[], _∷_}
+use lib.IntN.{ℤ, pos, negsuc}
 use lib.Signed.{_≤ℤ_, _<ℤ_}
+use Rattle.drive.specs.declared.Session.{Session}
 use Rattle.drive.specs.declared.Show.{Show}
 use Rattle.drive.specs.Limits.{ShowWithin}
 use Rattle.theory.specs.Counts.{Smallest}
@@ -12,11 +15,12 @@ use Rattle.verdict.specs.declared.Decision.{Decision}
 use Rattle.verdict.specs.declared.Verdict.the-variants as verdict
 use Rattle.verdict.specs.Answers.{DecisionIs, setOf}
 use Rattle.run.specs.declared.Run.{Run}
-use Rattle.run.specs.Run.{playing}
+use Rattle.run.specs.Run.{playing, clipAt}
 use Rattle.spare.specs.declared.Spare.the-variants.{Time}
 use Rattle.spare.specs.Answers.{workaheadOf, slackOf}
-use Rattle.spare.specs.Laws.{Steady, Lightly}
+use Rattle.spare.specs.Laws.{Cushioned, Steady, Lightly}
 use Rattle.promises.specs.Files.{Shaped}
+use Rattle.promises.specs.Numbers.{X, showOf, runOf, loaded}
 use Rattle.promises.specs.Reasons.{loadSum, fullLoad}
 use Rattle.promises.specs.Runs.{RunOf}
 
@@ -43,16 +47,37 @@ pub record Lighter : Type 0 where
 
 -- ---- spare time
 
--- Two runs as demand 3 compares them, where the lighter has less to spare.
+-- Two runs as demand 3 compares them, where the lighter has less to spare: its one session plays at a lower rate, behind its cushion.
 pub record Worse : Type 0 where
   pub light : Run
   pub heavy : Run
   pub lightly : Lightly light heavy (λ i. i)
+  pub alone : playing light ≡ 1
+  pub lower : clipAt light 0 .rate < clipAt heavy 0 .rate
+  pub behind : Cushioned light 0 → ⊥
   pub less : ℤ
   pub more : ℤ
   pub light-slack : slackOf light .spare ≡ Time less
   pub heavy-slack : slackOf heavy .spare ≡ Time more
   pub worse : less <ℤ more
+
+-- Two runs as demand 3 compares them, their sessions as the proviso asks, where the lighter has no less to spare.
+pub record NoLess (light heavy : Run) (e : ℕ → ℕ) (less more : ℤ) : Type 0 where
+  pub lightly : Lightly light heavy e
+  pub steady : (i : ℕ) → i < playing light → Steady light heavy i (e i)
+  pub light-slack : slackOf light .spare ≡ Time more
+  pub heavy-slack : slackOf heavy .spare ≡ Time less
+  pub no-less : less ≤ℤ more
+
+-- Sessions of this rate on X, opened, each with P bytes put: one, and two.
+abbrev pub rated : ℕ → Session
+rated R = record { rate = R; cushion = 1; buffer = 200000000; layout = 0 }
+
+abbrev pub one : ℕ → ℕ → Run
+one R P = runOf (showOf X (rated R ∷ [])) (1 ∷ []) (loaded P ∷ []) false
+
+abbrev pub two : ℕ → ℕ → Run
+two R P = runOf (showOf X (rated R ∷ rated R ∷ [])) (1 ∷ 1 ∷ []) (loaded P ∷ loaded P ∷ []) false
 
 pub record Spare : Type 0 where
   -- A session of the lighter run that plays at the rate it had, or that is not behind its cushion, has no less workahead; where each is so,
@@ -69,7 +94,11 @@ pub record Spare : Type 0 where
   pub enough :
       (a b : Run) (e : ℕ → ℕ) → Lightly a b e → (y z : ℤ) → slackOf a .spare ≡ Time z → slackOf b .spare ≡ Time y → pos 0 ≤ℤ y →
       pos 0 ≤ℤ z
-  -- The proviso is needed.
+  -- The first of two left out, with nothing put: both were behind their cushions, at the rate that they had.
+  pub left-out : NoLess (one 512000 0) (two 512000 0) (stoodAt 0) (negsuc 84001) (negsuc 42001)
+  -- Half the rate, where what is put was 100,000 µs ahead.
+  pub half-rate : NoLess (one 256000 51201) (one 512000 51201) (λ i. i) (pos 58000) (pos 158000)
+  -- The proviso is needed where a rate was lowered.
   pub proviso : Worse
   -- Every run of a show holds its smallest counts, whatever calls came before.
   pub smallest : (s : Show) (r : Run) → RunOf s r → Smallest (loadOf (r .show)) (setOf (r .counts))

@@ -64,7 +64,7 @@ module _ (a b : Run) (e : ℕ → ℕ) (h : Lightly a b e) where
       slack-lighter e (aheadAt b) (aheadAt a) (timeAt b) (timeAt a) (playing a) (playing b) z (loads .inside) (loads .rising)
       (λ i l. ahead-lighter i l (c i l)) time-lighter
 
-  -- Where the heavier run has slack of 0 or more no session is behind its cushion, in neither run ..
+  -- Where the heavier run has slack of 0 or more, no session of the lighter is behind its cushion ..
   pub slack-cushions : pos 0 ≤ℤ slackTime b → (i : ℕ) → i < playing a → Cushioned a i
   slack-cushions z i l =
       let x = slack-ahead (rank (aheadAt b) (playing b)) (aheadAt b) (timeAt b) (playing b) (e i) (loads .inside i l) z in
@@ -75,6 +75,6 @@ module _ (a b : Run) (e : ℕ → ℕ) (h : Lightly a b e) where
       let k = loads .stream i l .cushion in
       omega arith
 
-  -- .. so the lighter has no less.
+  -- .. so its slack is no smaller, whatever was lowered.
   pub spare-kept : 0 < playing a → pos 0 ≤ℤ slackTime b → slackTime b ≤ℤ slackTime a
   spare-kept z y = spare-lighter z (λ i l. inr (slack-cushions y i l))
