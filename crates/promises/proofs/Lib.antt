@@ -11,6 +11,7 @@ pub mod Order
 pub mod Reasons
 pub mod Sayings
 pub mod Refusals
+pub mod Compared
 pub mod Spare
 pub mod SpareTime
 pub mod Answered

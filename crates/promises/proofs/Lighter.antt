@@ -1,15 +1,16 @@
 -- Lighter shows, by the laws of lighter loads. Assumes nothing.
-use Prim.Native.Nat.{ℕ, _≤_}
-use mathlib.Core.Path.{_≡_, refl, sym, subst}
+use Prim.Native.Nat.{ℕ, _*_, _≤_}
+use mathlib.Core.Path.{_≡_, refl, sym, ap, subst}
 use native.Mathlib.Omega.{arith}
 use lib.ListN.{length}
+use Rattle.drive.specs.declared.Drive.{Drive}
 use Rattle.drive.specs.declared.Show.{Show}
 use Rattle.drive.specs.Limits.{ShowWithin}
 use Rattle.theory.specs.Counts.{Load, Sound, Smallest}
 use Rattle.theory.specs.Lighter.{Lighter}
 use Rattle.theory.specs.Shows.{loadOf, Lightened, left-out, without, stoodAt}
 use Rattle.theory.proofs.Lighter.{lighter-accepted, lighter-counts, lighter-times, lighter-rounds}
-use Rattle.theory.proofs.Shows.{show-sound, lightened-lighter, left-out-within, tenths-lighter}
+use Rattle.theory.proofs.Shows.{show-sound, lightened-lighter, left-out-within, lightened-drive, load-lighter, tenths-lighter}
 use Rattle.verdict.specs.declared.Decision.{Decision}
 use Rattle.verdict.specs.declared.Verdict.the-variants as verdict
 use Rattle.verdict.specs.Answers.{DecisionIs, acceptedWith}
@@ -17,6 +18,7 @@ use Rattle.verdict.proofs.Sets.{set-of-row}
 use Rattle.verdict.proofs.Decisions.{accepted-set, accepted-if}
 use Rattle.promises.specs.Lighter.{NoWorse}
 use Rattle.promises.specs.Lighter as specs
+use Rattle.promises.proofs.Reasons.{load-line}
 
 -- The smallest sets of two loads, one lighter, as rows.
 no-worse :
@@ -54,5 +56,7 @@ lighter-shows =
           let n = w .counts .sessions in
           let held : b .playing ≤ length (b .sessions) = omega (arith, shaped .sessions) in
           lighter (without k b) b (stoodAt k) (left-out k h held) (left-out-within b k h held w) d f p q e);
-      load = tenths-lighter;
+      load = λ a b e h. rw (← load-line a, ← load-line b) (load-lighter a b e h);
+      full = λ a b e h. ap (λ (d : Drive). d .cylinder * d .block * 1000000) (lightened-drive a b e h);
+      told = tenths-lighter;
     }

@@ -153,7 +153,7 @@ module _ (s : Show) (i size : ℕ) (h : ReasonIs s (reason.Buffer i size)) where
 -- ---- the load
 
 -- The rule's line.
-load-line : (s : Show) → wholeLoad (loadOf s) ≡ loadSum s
+pub load-line : (s : Show) → wholeLoad (loadOf s) ≡ loadSum s
 unfolding loadSum costOf
 load-line s = sum-same _ _ (s .playing) (λ i l. rw (mul-comm _ (s .drive .cylinder)))
 

@@ -1,14 +1,11 @@
--- Worked runs: p8 to p10, and two opened runs of which the lighter has less to spare. Each is computed. Assumes nothing.
-use Prim.Native.Nat.{ℕ, zero, suc, _≤_, _<_}
+-- Worked runs: p8 to p10. Each is computed. Assumes nothing.
 use mathlib.Core.Path.{refl, sym, ap}
 use mathlib.Core.Bool.{Bool, true, false}
-use mathlib.Core.List.{[], _∷_}
 use mathlib.Core.Logic.{Dec·and}
 use native.Mathlib.Decide.{decLe, decLt, ℕ-discrete}
 use native.Mathlib.Omega.{arith}
 use lib.Dec.{T}
 use lib.IntN.{pos, negsuc}
-use Rattle.drive.specs.declared.Session.{Session}
 use Rattle.drive.specs.Decisions.{between?, counts?, drive?, layout?, session?}
 use Rattle.drive.specs.Lists.{listed}
 use Rattle.cost.specs.Bound.{worstTime, edges, ceil}
@@ -16,28 +13,22 @@ use Rattle.cost.specs.Worst.{costOf}
 use Rattle.theory.specs.Sum.{sumTo}
 use Rattle.theory.specs.Floor.{floorZ}
 use Rattle.theory.specs.Spare.{less?, leastTo, slackBy, same?, before?, rank}
-use Rattle.theory.specs.Counts.{Smallest}
-use Rattle.theory.specs.Shows.{loadOf, Easier, eased}
-use Rattle.verdict.specs.Answers.{setOf}
-use Rattle.run.specs.declared.Run.{Run}
 use Rattle.run.specs.Sound.{SoundRun}
 use Rattle.run.specs.Decisions.{below?, some?, show?, good?, false?, true?, waiting?, state?, named?, nothing?, room?, put?, mayRead?, underway?, cycle?, sound?}
 use Rattle.run.specs.Steps.{changed, passed}
 use Rattle.run.specs.declared.Moved.{Moved}
 use Rattle.playback.proofs.Calls.{pass-granted}
-use Rattle.spare.specs.declared.Spared.{Spared}
 use Rattle.spare.specs.Times.{named, running}
 use Rattle.spare.proofs.Calls.{workahead-time, slack-time, start-begins, begin-granted}
-use Rattle.promises.specs.Numbers.{X, clip, showOf, places, runOf, loaded, eighth, clocked, P8, P9, P10}
-use Rattle.promises.specs.Lighter.{Worse}
+use Rattle.promises.specs.Numbers.{eighth, clocked, P8, P9, P10}
 
 -- ---- a test that computes
 
-unfoldable told : {p : Type 0} → Dec p → Bool
+unfoldable pub told : {p : Type 0} → Dec p → Bool
 told (yes h) = true
 told (no h) = false
 
-from-told : {p : Type 0} (d : Dec p) → T (told d) → p
+pub from-told : {p : Type 0} (d : Dec p) → T (told d) → p
 unfolding told
 from-told (yes h) t = h
 from-told (no h) t = absurd t
@@ -82,61 +73,4 @@ p10 =
     record {
       one = sym (pass-granted (clocked 0) 1 clocked-first (clocked 512000) (omega arith) refl);
       two = sym (pass-granted (clocked 0) 2 clocked-first (clocked 1000000) (omega arith) refl);
-    }
-
--- ---- the proviso
-
--- One session alone, at a rate of 1 and at the rate of the worked numbers; nothing is put yet, so both are behind their cushions.
-abbrev slow : Session
-slow = record { rate = 1; cushion = 1; buffer = 200000000; layout = 0 }
-
-abbrev alone : Session → Run
-alone x = runOf (showOf X (x ∷ [])) (1 ∷ []) (loaded 0 ∷ []) false
-
-slow-sound : SoundRun (alone slow)
-unfolding told sound? show? good? below? state? named? some? cycle? false? true? waiting? nothing? room? put? mayRead? underway? counts? drive? layout? session? between? sumTo costOf worstTime edges ceil listed decLe decLt ℕ-discrete Dec·and
-slow-sound = from-told (sound? (alone slow)) tt
-
-clip-sound : SoundRun (alone clip)
-unfolding told sound? show? good? below? state? named? some? cycle? false? true? waiting? nothing? room? put? mayRead? underway? counts? drive? layout? session? between? sumTo costOf worstTime edges ceil listed decLe decLt ℕ-discrete Dec·and
-clip-sound = from-told (sound? (alone clip)) tt
-
--- A count of 1 is as small as a count can be.
-one-smallest : (x : Session) → SoundRun (alone x) → Smallest (loadOf (showOf X (x ∷ []))) (setOf (places (1 ∷ [])))
-one-smallest x s = record { good = s .counts; least = λ o g i l. one i l (g .counted i l) }
-  where
-    one : (i : ℕ) → i < 1 → {n : ℕ} → 1 ≤ n → setOf (places (1 ∷ [])) i ≤ n
-    one zero l h = h
-    one (suc i) l h = absurd (let f : ⊥ = omega arith in f)
-
-slow-easier : (i : ℕ) → i < 1 → Easier (showOf X (slow ∷ [])) (showOf X (clip ∷ [])) i i
-slow-easier zero l =
-    record {
-      rate = omega arith;
-      cushion = omega arith;
-      buffer = omega arith;
-      layout = record { longest = omega arith; track = omega arith; time = omega arith; rotation = omega arith };
-    }
-slow-easier (suc i) l = absurd (let f : ⊥ = omega arith in f)
-
-pub worse : Worse
-unfolding floorZ leastTo slackBy before? rank less? same? ℕ-discrete sumTo costOf worstTime edges ceil listed decLe decLt
-worse =
-    record {
-      light = alone slow;
-      heavy = alone clip;
-      lightly =
-          record {
-            lighter = eased (record { drive = refl; playing = refl; session = slow-easier });
-            light = slow-sound;
-            heavy = clip-sound;
-            after = one-smallest slow slow-sound;
-            before = one-smallest clip clip-sound;
-            states = λ i l. refl;
-          };
-      less = negsuc 1041999;
-      more = negsuc 42001;
-      light-slack = ap (λ (s : Spared). s .spare) (sym (slack-time (alone slow) slow-sound (negsuc 1041999) (omega arith) refl));
-      heavy-slack = ap (λ (s : Spared). s .spare) (sym (slack-time (alone clip) clip-sound (negsuc 42001) (omega arith) refl));
-      worse = record { lt = tt };
     }

@@ -2,6 +2,7 @@
 use Prim.Native.Nat.{ℕ, _+_, _*_, _≤_, _<_}
 use mathlib.Core.Path.{_≡_}
 use mathlib.Core.Bool.{true}
+use mathlib.Core.Logic.{_⊎_}
 use lib.ListN.{length}
 use Rattle.theory.specs.Counts.{Smallest}
 use Rattle.theory.specs.Shows.{loadOf, Lightened}
@@ -22,6 +23,10 @@ pub record Started (r q : Run) : Type 0 where
 -- A session is not behind its cushion: P is no less than Y and C come to, all in microbytes.
 abbrev pub Cushioned : Run → ℕ → Type 0
 Cushioned r i = clipAt r i .cushion * 1000000 + stateAt r i .clock ≤ stateAt r i .put * 1000000
+
+-- Session i of a plays at the rate of session j of b, or it is not behind its cushion.
+abbrev pub Steady : Run → Run → ℕ → ℕ → Type 0
+Steady a b i j = (clipAt a i .rate ≡ clipAt b j .rate) ⊎ Cushioned a i
 
 -- Two runs of demand 3: a's show is b's made lighter, and session i of a was session e i. Both are sound and hold the smallest
 -- counts of their shows, and P, G and C of the sessions that are left are equal.

@@ -6,7 +6,7 @@ use native.Mathlib.Nat.{add-mul, mul-le-mul-left, suc-mul, div-mul-le-self, lt-d
 use native.Mathlib.Decide.{decLe}
 use lib.Dec.{le→leb}
 use lib.IntN.{ℤ, pos, negsuc, subℕ, _+ℤ_, _*ℤ_}
-use lib.Signed.{_≤ℤ_, leZ-yes}
+use lib.Signed.{_≤ℤ_, ≤ℤ-refl, leZ-yes}
 use Rattle.theory.specs.Floor.{Floors, floorZ}
 use Rattle.theory.proofs.Integers.{≤ℤ-antisymm, sub-ge, sub-lt, from-pos, from-negsuc, difference}
 use Rattle.theory.proofs.Integers.{sub-le, sub-below, le-sub, below-sub, sub-more, sub-times}
@@ -24,10 +24,11 @@ floors-sub a b r p q h k =
       above = rw (one-more p q r) (sub-below a b ((p + 1) * r) (q * r) k);
     }
 
-sub-floors : (a b r p q s t : ℕ) → Floors (subℕ a b) r (subℕ p q) → Floors (subℕ a b) r (subℕ s t) → p + t ≤ s + q
-sub-floors a b r p q s t f g =
+sub-floors :
+    (a b c d r p q s t : ℕ) → a + d ≤ c + b → Floors (subℕ a b) r (subℕ p q) → Floors (subℕ c d) r (subℕ s t) → p + t ≤ s + q
+sub-floors a b c d r p q s t e f g =
     let h = le-sub (p * r) (q * r) a b (rw (sub-times p q r) at (f .below)) in
-    let k = below-sub a b ((s + 1) * r) (t * r) (rw (one-more s t r) at (g .above)) in
+    let k = below-sub c d ((s + 1) * r) (t * r) (rw (one-more s t r) at (g .above)) in
     let l : p + t < s + 1 + q = lt-of-mul-lt-mul-right r (omega (arith, add-mul p t r, add-mul (s + 1) q r)) in
     omega arith
 
@@ -53,22 +54,37 @@ floor-floors (negsuc a) r h =
     let s = suc-mul (a / r) r in
     rw (floor-under a r, from-negsuc a) (floors-sub 0 (suc a) r 0 (suc (a / r)) (omega arith) (omega arith))
 
-floors-most : (z : ℤ) (r : ℕ) (p q : ℤ) → Floors z r p → Floors z r q → p ≤ℤ q
-floors-most z r p q f g =
-    let x = difference z in
-    let y = difference p in
-    let w = difference q in
-    rw (y .is, w .is)
-    (sub-le (y .plus) (y .minus) (w .plus) (w .minus)
-    (sub-floors (x .plus) (x .minus) r (y .plus) (y .minus) (w .plus) (w .minus) (rw (x .is, y .is) at f) (rw (x .is, w .is) at g)))
+-- Of a smaller number it is no larger ..
+floors-rise : (y z : ℤ) (r : ℕ) (p q : ℤ) → y ≤ℤ z → Floors y r p → Floors z r q → p ≤ℤ q
+floors-rise y z r p q e f g =
+    let v = difference y in
+    let w = difference z in
+    let x = difference p in
+    let u = difference q in
+    rw (x .is, u .is)
+    (sub-le (x .plus) (x .minus) (u .plus) (u .minus)
+    (sub-floors (v .plus) (v .minus) (w .plus) (w .minus) r (x .plus) (x .minus) (u .plus) (u .minus)
+    (le-sub (v .plus) (v .minus) (w .plus) (w .minus) (rw (v .is, w .is) at e)) (rw (v .is, x .is) at f) (rw (w .is, u .is) at g)))
 
--- There is one.
+-- .. so there is one.
 pub floors-once : (z : ℤ) (r : ℕ) (p q : ℤ) → 0 < r → Floors z r p → Floors z r q → p ≡ q
-floors-once z r p q h f g = ≤ℤ-antisymm p q (floors-most z r p q f g) (floors-most z r q p g f)
+floors-once z r p q h f g = ≤ℤ-antisymm p q (floors-rise z z r p q (≤ℤ-refl z) f g) (floors-rise z z r q p (≤ℤ-refl z) g f)
+
+-- By one divisor it grows with the number that is divided, below zero too.
+pub floor-rises : (y z : ℤ) (r : ℕ) → 0 < r → y ≤ℤ z → floorZ y r ≤ℤ floorZ z r
+floor-rises y z r h e = floors-rise y z r (floorZ y r) (floorZ z r) e (floor-floors y r h) (floor-floors z r h)
 
 floor-ge : (a b r : ℕ) → b ≤ a → floorZ (subℕ a b) r ≡ pos ((a - b) / r)
 unfolding floorZ
 floor-ge a b r h = rw (sub-ge a b h)
+
+-- Where it is 0 or more, so is what is divided.
+pub floor-sign : (a b r : ℕ) → pos 0 ≤ℤ floorZ (subℕ a b) r → b ≤ a
+unfolding floorZ
+floor-sign a b r h = elim (decLe b a) [
+  | yes l ↦ l
+  | no l ↦ absurd ((rw (sub-lt a b (omega arith)) at h) .le)
+]
 
 -- From k times the divisor up it is k at least: whole microseconds lose nothing.
 pub floor-from : (k a b r : ℕ) → 0 < r → k * r + b ≤ a → pos k ≤ℤ floorZ (subℕ a b) r

@@ -130,3 +130,10 @@ less-grows a b k l h m =
     let p : x .plus + y .minus ≤ y .plus + x .minus = le-sub _ _ _ _ (rw (x .is, y .is) at h) in
     rw (x .is, y .is, sub-less (x .plus) (x .minus) k, sub-less (y .plus) (y .minus) l)
     (sub-le (x .plus) (x .minus + k) (y .plus) (y .minus + l) (omega arith))
+
+-- What is 0 or more after something is taken from it was so before.
+pub less-kept : (a : ℤ) (k : ℕ) → pos 0 ≤ℤ (a -ℤ pos k) → pos 0 ≤ℤ a
+less-kept a k h =
+    let x = difference a in
+    let p : 0 + (x .minus + k) ≤ x .plus + 0 = le-sub _ _ _ _ (rw (x .is, sub-less (x .plus) (x .minus) k, from-pos 0) at h) in
+    rw (x .is, from-pos 0) (sub-le 0 0 (x .plus) (x .minus) (omega arith))

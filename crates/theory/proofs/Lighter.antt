@@ -100,15 +100,15 @@ module _ (a b : Load) (e : ℕ → ℕ) (t : Lighter a b e) where
     pub lighter-rounds : (p m : ℕ → ℕ) → Smallest a p → Smallest b m → roundTime a p ≤ roundTime b m
     lighter-rounds p m x y = le-trans (round-grows a s p (λ i. m (e i)) (lighter-counts p m x y)) (lighter-round m)
 
-  -- The same drive, and no weight larger: it has no more to do.
-  module _ (drive : a .cylinder ≡ b .cylinder) (weight : (i : ℕ) → i < a .playing → a .stream i .weight ≤ b .stream (e i) .weight) where
-    lighter-load : wholeLoad a ≤ wholeLoad b
-    lighter-load =
-        le-trans
-        (sum-grows _ (λ i. b .stream (e i) .rate * b .stream (e i) .weight) (a .playing)
-        (λ i h. mul-le-mul (t .stream i h .rate) (weight i h)))
-        (sum-part (λ j. b .stream j .rate * b .stream j .weight) e (a .playing) (b .playing) (t .inside) (t .rising))
+  -- No weight larger: it has no more to do.
+  pub lighter-load : ((i : ℕ) → i < a .playing → a .stream i .weight ≤ b .stream (e i) .weight) → wholeLoad a ≤ wholeLoad b
+  lighter-load weight =
+      le-trans
+      (sum-grows _ (λ i. b .stream (e i) .rate * b .stream (e i) .weight) (a .playing)
+      (λ i h. mul-le-mul (t .stream i h .rate) (weight i h)))
+      (sum-part (λ j. b .stream j .rate * b .stream j .weight) e (a .playing) (b .playing) (t .inside) (t .rising))
 
-    pub lighter-tenths : tenths a ≤ tenths b
-    unfolding tenths
-    lighter-tenths = rw (drive, t .block) (div-grows (b .cylinder * unit b) (mul-le-mul-right 1000 lighter-load))
+-- On the same drive the tenths go with the load.
+pub tenths-grow : (a b : Load) → a .cylinder ≡ b .cylinder → a .block ≡ b .block → wholeLoad a ≤ wholeLoad b → tenths a ≤ tenths b
+unfolding tenths
+tenths-grow a b cylinder block h = rw (cylinder, block) (div-grows (b .cylinder * unit b) (mul-le-mul-right 1000 h))

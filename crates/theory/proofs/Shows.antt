@@ -17,12 +17,12 @@ use Rattle.cost.specs.Bound.{Cheaper, worstTime, countMost}
 use Rattle.cost.specs.Worst.{costOf}
 use Rattle.cost.proofs.Bound.{worst-cheaper}
 use Rattle.cost.proofs.Costs.{session-laws, read-cheaper}
-use Rattle.theory.specs.Counts.{Sound, Feasible, Good, Smallest}
+use Rattle.theory.specs.Counts.{Sound, Feasible, Good, Smallest, wholeLoad}
 use Rattle.theory.specs.Lighter.{Light, Lighter}
 use Rattle.theory.specs.Shows.{loadOf, Quicker, Easier, Eased, without, stoodAt, Lightened, eased, left-out, then}
 use Rattle.theory.specs.Reasons.{tenths}
 use Rattle.theory.proofs.Rounds.{count-capped}
-use Rattle.theory.proofs.Lighter.{lighter-then, lighter-good, lighter-tenths}
+use Rattle.theory.proofs.Lighter.{lighter-then, lighter-good, lighter-load, tenths-grow}
 
 -- A show within its limits is a load of which the theory holds.
 pub show-sound : (s : Show) → ShowWithin s → Sound (loadOf s)
@@ -165,15 +165,26 @@ lightened-lighter a b e (left-out k h g) = left-out-lighter b k h g
 lightened-lighter a c e (then {b = b} {e = p} {f = q} g h) =
     lighter-then (loadOf a) (loadOf b) (loadOf c) p q (lightened-lighter a b p g) (lightened-lighter b c q h)
 
--- Nothing that makes a show lighter gives the drive more to do.
-pub tenths-lighter : (a b : Show) (e : ℕ → ℕ) → Lightened a b e → tenths (loadOf a) ≤ tenths (loadOf b)
-tenths-lighter a b e (eased h) =
-    lighter-tenths (loadOf a) (loadOf b) e (eased-lighter a b h) (ap (λ (d : Drive). d .cylinder) (h .drive))
-    (λ i l. easier-weight a b (h .drive) i i (h .session i l))
-tenths-lighter a b e (left-out k h g) =
-    lighter-tenths (loadOf a) (loadOf b) e (left-out-lighter b k h g) refl
+-- Nothing that makes a show lighter changes the drive ..
+pub lightened-drive : (a b : Show) (e : ℕ → ℕ) → Lightened a b e → a .drive ≡ b .drive
+lightened-drive a b e (eased h) = h .drive
+lightened-drive a b e (left-out k h g) = refl
+lightened-drive a c e (then {b = b} {e = p} {f = q} g h) = lightened-drive a b p g ∙ lightened-drive b c q h
+
+-- .. or gives it more to do: in the sum ..
+pub load-lighter : (a b : Show) (e : ℕ → ℕ) → Lightened a b e → wholeLoad (loadOf a) ≤ wholeLoad (loadOf b)
+load-lighter a b e (eased h) =
+    lighter-load (loadOf a) (loadOf b) e (eased-lighter a b h) (λ i l. easier-weight a b (h .drive) i i (h .session i l))
+load-lighter a b e (left-out k h g) =
+    lighter-load (loadOf a) (loadOf b) e (left-out-lighter b k h g)
     (λ i l. easier-weight a b refl i (stoodAt k i) (left-out-easier b k h g i l))
-tenths-lighter a c e (then {b = b} {e = p} {f = q} g h) = le-trans (tenths-lighter a b p g) (tenths-lighter b c q h)
+load-lighter a c e (then {b = b} {e = p} {f = q} g h) = le-trans (load-lighter a b p g) (load-lighter b c q h)
+
+-- .. and in tenths of a per cent.
+pub tenths-lighter : (a b : Show) (e : ℕ → ℕ) → Lightened a b e → tenths (loadOf a) ≤ tenths (loadOf b)
+tenths-lighter a b e h =
+    let d = lightened-drive a b e h in
+    tenths-grow (loadOf a) (loadOf b) (ap (λ (x : Drive). x .cylinder) d) (ap (λ (x : Drive). x .block) d) (load-lighter a b e h)
 
 -- ---- unused places
 

@@ -10,7 +10,7 @@ use lib.Signed.{_≤ℤ_, _<ℤ_, ≤ℤ-refl, <ℤ-≤ℤ-trans, <ℤ-irrefl}
 use Rattle.theory.specs.Sum.{sumTo}
 use Rattle.theory.specs.Spare.{less?, lesser, leastTo, loadBy, spareBy, slackBy, Before, before?, rank, slack}
 use Rattle.theory.proofs.Sum.{sum-capped, sum-part, where-most, where-grows, where-new, where-same}
-use Rattle.theory.proofs.Integers.{not-less, less-at-most, ≤ℤ-trans, ≤ℤ-antisymm, less-grows}
+use Rattle.theory.proofs.Integers.{not-less, less-at-most, ≤ℤ-trans, ≤ℤ-antisymm, less-grows, less-kept}
 
 -- ---- the least of some
 
@@ -119,6 +119,11 @@ pub slack-same :
 slack-same p q w v u t n z f g h =
     ≤ℤ-antisymm _ _ (slack-half p q w v u t n z f g h)
     (slack-half q p v w t u n z (λ i l. sym (f i l)) (λ i l. sym (g i l)) (λ i l. sym (h i l)))
+
+-- Where slack is not below zero, no workahead is.
+pub slack-ahead :
+    (place : ℕ → ℕ) (w : ℕ → ℤ) (u : ℕ → ℕ) (n k : ℕ) → k < n → pos 0 ≤ℤ slackBy place w u n → pos 0 ≤ℤ w k
+slack-ahead place w u n k l h = less-kept (w k) (loadBy place u n k) (≤ℤ-trans h (slack-least place w u n k l))
 
 -- Where every workahead covers all the times, slack is not below zero.
 pub slack-enough :
