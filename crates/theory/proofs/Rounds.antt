@@ -22,7 +22,7 @@ pub need-least : (r D t m : ℕ) → 1 ≤ D → r * t < m * D → need r D t �
 unfolding need
 need-least r D t m h g = let d : r * t / D < m = div-lt-iff-lt-mul h .1 g in omega arith
 
--- N2: what the code computes of a time D q + p, so that R x t is never formed.
+-- N2: what the code computes of a time D q + p where R x t need not fit 64 bits.
 pub need-split : (r D q p : ℕ) → 1 ≤ D → need r D (D * q + p) ≡ r * q + r * p / D + 1
 unfolding need
 need-split r D q p h =
