@@ -33,7 +33,7 @@ use Rattle.embed.specs.Answers as answers
 use Rattle.promises.specs.Refusals.{OneOf, Says}
 use Rattle.promises.specs.Embedded.{Embedded}
 use Rattle.promises.proofs.Answered.{answered}
-use Rattle.promises.proofs.Order.{order}
+use Rattle.promises.proofs.Only.{only}
 use Rattle.promises.proofs.Says.{numbered, same-verdict, one-more}
 
 -- ---- one number
@@ -103,9 +103,9 @@ among n (inr (inr (inr (inl e)))) = inr (inr (inr (inr (inr (inr (inl e))))))
 among n (inr (inr (inr (inr (inl e))))) = inr (inr (inr (inr (inr (inr (inr (inl e)))))))
 
 of-file : (f : List ℕ) (d : Decision) → FileDecisionIs f d → Says verdict.Refused (d .verdict) (1 ∷ 2 ∷ 3 ∷ 4 ∷ 5 ∷ 6 ∷ 7 ∷ 8 ∷ [])
-of-file f d (answers.read _ e h) w p = among (numberOf w) (order .deciding (readOf f .show) d h w p)
+of-file f d (answers.read _ e h) w p = among (numberOf w) (only .deciding (readOf f .show) d h w p)
 of-file f d (answers.unread v e) w p =
-    one-more (1 ∷ 2 ∷ 3 ∷ 4 ∷ 5 ∷ 6 ∷ 7 ∷ []) (8 ∷ []) (numberOf w) (order .reading f w (e ∙ ap check.Refused (same-verdict p)))
+    one-more (1 ∷ 2 ∷ 3 ∷ 4 ∷ 5 ∷ 6 ∷ 7 ∷ []) (8 ∷ []) (numberOf w) (only .reading f w (e ∙ ap check.Refused (same-verdict p)))
 
 decided-by :
     (f : List ℕ) (d : Decision) (v : Verdict) → d .verdict ≡ v → FileDecisionIs f d → (w : Refusal) → verdictCode v ≡ codeOf w →
@@ -127,8 +127,8 @@ reason-among n (inr (inr (inl e))) = inr (inr (inr (inr (inr (inl e)))))
 reason-among n (inr (inr (inr (inl e)))) = inr (inr (inr (inr (inr (inr (inl e))))))
 
 reason-of-file : (f : List ℕ) (p : Reason) → FileReasonIs f p → Says reason.Refused p (1 ∷ 2 ∷ 3 ∷ 4 ∷ 5 ∷ 6 ∷ 7 ∷ [])
-reason-of-file f p (answers.read _ e h) w q = reason-among (numberOf w) (order .why (readOf f .show) p h w q)
-reason-of-file f p (answers.unread v e) w q = order .reading f w (e ∙ ap check.Refused (let same : v ≡ w = cc in same))
+reason-of-file f p (answers.read _ e h) w q = reason-among (numberOf w) (only .why (readOf f .show) p h w q)
+reason-of-file f p (answers.unread v e) w q = only .reading f w (e ∙ ap check.Refused (let same : v ≡ w = cc in same))
 
 reasoned-by :
     (f : List ℕ) (p q : Reason) → p ≡ q → FileReasonIs f p → (w : Refusal) → reasonCode q ≡ codeOf w →

@@ -7,6 +7,8 @@ pub mod Printed
 pub mod Reports
 pub mod Runs
 pub mod Says
+pub mod Only
+pub mod Tells
 pub mod Order
 pub mod Reasons
 pub mod Sayings

@@ -57,8 +57,8 @@ pub record Numbered : Type 0 where
   -- The place is 0 but for 6 and 7.
   pub place : (w : Refusal) → OneOf (6 ∷ 7 ∷ []) (numberOf w) ⊎ (placeOf w ≡ 0)
 
--- No call says another number than these. They stand in the order of its tests, which its definition gives.
-pub record Order : Type 0 where
+-- No call says another number than these. Which of them, and when: record Order (specs/Order).
+pub record Only : Type 0 where
   pub check : (s : Show) → Says Refused (showCheck s) (2 ∷ 5 ∷ 6 ∷ 7 ∷ [])
   pub worst-time : (s : Show) (i n : ℕ) → Says worst.Refused (worstOf s i n) (2 ∷ 5 ∷ 6 ∷ 7 ∷ 9 ∷ [])
   pub reading : (f : List ℕ) → Says Refused (readOf f .check) (1 ∷ 2 ∷ 3 ∷ 4 ∷ 5 ∷ 6 ∷ 7 ∷ [])

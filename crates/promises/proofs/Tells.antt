@@ -1,0 +1,76 @@
+-- The laws by which tests that follow one another tell the first fault. Assumes nothing.
+use Prim.Native.Nat.{ℕ}
+use mathlib.Core.Path.{_≡_, refl}
+use mathlib.Core.List.{[], _∷_}
+use mathlib.Core.Logic.{ite}
+use lib.IntN.{ℤ}
+use Rattle.drive.specs.declared.refusal.Refusal.{Refusal}
+use Rattle.drive.specs.declared.refusal.Refusal.the-variants as refusal
+use Rattle.drive.specs.declared.refusal.Check.{Check}
+use Rattle.drive.specs.declared.refusal.Check.the-variants.{Within, Refused}
+use Rattle.drive.specs.Outcomes.{Outcome, granted, refusedBy, checkOutcome}
+use Rattle.drive.specs.Checks.{unless, first}
+use Rattle.run.specs.declared.State.{State}
+use Rattle.run.specs.declared.Run.{Run}
+use Rattle.run.specs.Answers.{moved}
+use Rattle.sound.specs.declared.Test.the-variants as test
+use Rattle.sound.specs.Answers.{testOutcome}
+use Rattle.player.specs.Answers.{drawnBy}
+use Rattle.scheduler.specs.Answers.{nextOf, chosenBy, choiceOutcome}
+use Rattle.spare.specs.Answers.{spared, spareOutcome}
+use Rattle.promises.specs.Order.{refusedWith, When}
+
+-- what an answer comes to by its check: the refusal, or what is granted
+abbrev pub after : Check → Outcome → Outcome
+after Within o = o
+after (Refused w) o = refusedBy w
+
+-- A test of a fault.
+pub data Tests (fault : Type 0) (w : Refusal) : Check → Type 0 where
+  clear : (fault → ⊥) → Tests fault w Within
+  faulty : fault → Tests fault w (Refused w)
+
+pub unless-tests : {p fault : Type 0} {w : Refusal} (d : Dec p) → (fault → p → ⊥) → ((p → ⊥) → fault) → Tests fault w (unless d w)
+unless-tests (yes h) f g = clear (λ b. f b h)
+unless-tests (no h) f g = faulty (g h)
+
+-- the same where the fault is that p does not hold
+pub unless-fails : {p : Type 0} {w : Refusal} (d : Dec p) → Tests (p → ⊥) w (unless d w)
+unless-fails d = unless-tests d (λ b h. b h) (λ n. n)
+
+-- ---- tests that follow one another
+
+module _ (o : Outcome) {fault : Type 0} {w : Refusal} {rest : Outcome → Type 0} {n : ℕ} where
+  -- The last test: o is granted.
+  pub tells-last : {x : Check} → Tests fault w x → refusedBy w ≡ refusedWith n 0 → (x ≡ Within → rest o) → When n fault rest (after x o)
+  tells-last (clear h) e g = record { present = λ b. absurd (h b); absent = λ c. g refl }
+  tells-last (faulty b) e g = record { present = λ c. e; absent = λ c. absurd (c b) }
+
+  -- A test before others.
+  pub tells-then :
+      (y : Check) {x : Check} → Tests fault w x → refusedBy w ≡ refusedWith n 0 → (x ≡ Within → rest (after y o)) →
+      When n fault rest (after (first x y) o)
+  tells-then y (clear h) e g = record { present = λ b. absurd (h b); absent = λ c. g refl }
+  tells-then y (faulty b) e g = record { present = λ c. e; absent = λ c. absurd (c b) }
+
+-- ---- what an answer comes to by its check
+
+pub test-outcome : {p : Type 0} (d : Dec p) → testOutcome (ite d test.Sound test.Damaged) ≡ after (unless d refusal.Damaged) (granted [])
+test-outcome (yes h) = refl
+test-outcome (no h) = refl
+
+pub moved-outcome : (k : Check) (r next : Run) → checkOutcome (moved k r next .check) ≡ after k (granted [])
+moved-outcome Within r next = refl
+moved-outcome (Refused w) r next = refl
+
+pub drawn-outcome : (k : Check) (s next : State) → checkOutcome (drawnBy k s next .check) ≡ after k (granted [])
+drawn-outcome Within s next = refl
+drawn-outcome (Refused w) s next = refl
+
+pub spared-outcome : (k : Check) (z : ℤ) (r : Run) → spareOutcome (spared k z r .spare) ≡ after k (granted (z ∷ []))
+spared-outcome Within z r = refl
+spared-outcome (Refused w) z r = refl
+
+pub chosen-outcome : (k : Check) (r : Run) → choiceOutcome (chosenBy k r .choice) ≡ after k (choiceOutcome (nextOf r .choice))
+chosen-outcome Within r = refl
+chosen-outcome (Refused w) r = refl
