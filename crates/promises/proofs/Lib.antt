@@ -9,6 +9,9 @@ pub mod Runs
 pub mod Says
 pub mod Only
 pub mod Tells
+pub mod OrderOfRuns
+pub mod OrderOfShows
+pub mod OrderOfFiles
 pub mod Order
 pub mod Reasons
 pub mod Sayings
