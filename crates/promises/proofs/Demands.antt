@@ -19,7 +19,7 @@ use Rattle.promises.proofs.Reports.{reports}
 use Rattle.promises.proofs.Reasons.{reasons}
 use Rattle.promises.proofs.Sayings.{sayings}
 use Rattle.promises.proofs.Runs.{hands-back, runs}
-use Rattle.promises.proofs.Says.{numbered}
+use Rattle.promises.proofs.Numbered.{numbered}
 use Rattle.promises.proofs.Answered.{answered}
 use Rattle.promises.proofs.Only.{only}
 use Rattle.promises.proofs.Order.{order}

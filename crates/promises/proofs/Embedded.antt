@@ -34,7 +34,8 @@ use Rattle.promises.specs.Refusals.{OneOf, Says}
 use Rattle.promises.specs.Embedded.{Embedded}
 use Rattle.promises.proofs.Answered.{answered}
 use Rattle.promises.proofs.Only.{only}
-use Rattle.promises.proofs.Says.{numbered, same-verdict, one-more}
+use Rattle.promises.proofs.Numbered.{numbered}
+use Rattle.promises.proofs.Says.{same-verdict, one-more}
 
 -- ---- one number
 

@@ -6,6 +6,7 @@ pub mod Lighter
 pub mod Printed
 pub mod Reports
 pub mod Runs
+pub mod Numbered
 pub mod Says
 pub mod Only
 pub mod Tells
