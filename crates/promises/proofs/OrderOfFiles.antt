@@ -19,7 +19,7 @@ use Rattle.trips.proofs.Trip.{written-check}
 use Rattle.text.specs.Told.{ToldIs, told, short}
 use Rattle.report.specs.Answers.{TextIs, textMost}
 use Rattle.explain.specs.Answers.{SaidIs, saidMost}
-use Rattle.promises.specs.Order.{Grants, When, trailerAt, trailerIn, FileThen, WriteOrder, OfFiles}
+use Rattle.promises.specs.Order.{Grants, _when_else_, trailerAt, trailerIn, FileThen, WriteOrder, OfFiles}
 use Rattle.promises.proofs.Tells.{after, after-first, unless-fails, most-tests, tells-last, tells-then, outcome-by}
 use Rattle.promises.proofs.Refusals.{reading-check}
 use Rattle.promises.proofs.OrderOfShows.{limits-tell}
@@ -55,11 +55,11 @@ write-tells x note room =
 
 told-tells :
     (is : List ℕ → Type 0) (most : ℕ) (b : List ℕ) (r : Written) (x : List ℕ) → ToldIs is most b r x →
-    When 16 (length b < most) Grants (checkOutcome (r .check))
+    (16 when length b < most else Grants) (checkOutcome (r .check))
 told-tells is most b r x (told t h l) = record { present = λ s. absurd (let f : ⊥ = omega arith in f); absent = λ c. refl }
 told-tells is most b r x (short l) = record { present = λ s. refl; absent = λ c. absurd (c l) }
 
-copy-tells : (f : List ℕ) (room : ℕ) → FileThen f (When 16 (room < length f) Grants) (after (copyCheck f room) (granted []))
+copy-tells : (f : List ℕ) (room : ℕ) → FileThen f (16 when room < length f else Grants) (after (copyCheck f room) (granted []))
 unfolding copyCheck readOf readAt
 copy-tells f room =
     let k = roomCheck (length f) room in

@@ -29,7 +29,7 @@ use Rattle.scheduler.specs.Answers.{nextOf, arrived, chooseCheck, chooseOf, cho
 use Rattle.spare.specs.Times.{slackTime, aheadAt, running}
 use Rattle.spare.specs.Answers.{workaheadOf, slackOf, someCheck, slackCheck, startCheck, startOf}
 use Rattle.theory.specs.Spare.{less?}
-use Rattle.promises.specs.Order.{Grants, When, Damaged, TooMuch, TooLong, ComesTo, PastLimit, OfRuns}
+use Rattle.promises.specs.Order.{Grants, _when_else_, Damaged, TooMuch, TooLong, ComesTo, PastLimit, OfRuns}
 use Rattle.promises.proofs.Tells.{Tests, clear, faulty, unless-tests, unless-fails, below-tests, most-tests, tells-last, tells-then}
 use Rattle.promises.proofs.Tells.{outcome-by, test-outcome, spared-outcome, chosen-outcome}
 
@@ -87,10 +87,10 @@ module _ (r : Run) where
       from (no l) (yes m) = absurd (c .before (skipped r) m (skipped-room r (let i = c .inside in omega arith)))
       from (no l) (no m) = omega arith
 
-  next-tells : When 14 (PastLimit r) Grants (choiceOutcome (nextOf r .choice))
+  next-tells : (14 when PastLimit r else Grants) (choiceOutcome (nextOf r .choice))
   unfolding nextOf arrived
   next-tells =
-      let P : Chosen → Type 0 = λ c. When 14 (PastLimit r) Grants (choiceOutcome (c .choice)) in
+      let P : Chosen → Type 0 = λ c. (14 when PastLimit r else Grants) (choiceOutcome (c .choice)) in
       ite-either P (ℕ-discrete (playing r) 0) _ _
       (λ z. record { present = λ b. absurd (let i = b .1 .0 .inside in let f : ⊥ = omega arith in f); absent = λ c. refl })
       (λ z.

@@ -30,7 +30,7 @@ use Rattle.reason.specs.Answers.{ReasonIs, loadedOf, reasonOutcome}
 use Rattle.reason.specs.Answers as why
 use Rattle.run.specs.declared.Opened.{Opened}
 use Rattle.run.specs.Opening.{OpenIs}
-use Rattle.promises.specs.Order.{refusedWith, Grants, When, Row, LimitsThen, ShowThen, OfShows}
+use Rattle.promises.specs.Order.{refusedWith, Grants, _when_else_, Row, LimitsThen, ShowThen, OfShows}
 use Rattle.promises.proofs.Tells.{after, after-first, unless-fails, below-tests, tells-last, tells-then}
 use Rattle.promises.proofs.Tells.{check-outcome, worst-outcome, loaded-outcome, opened-outcome}
 
@@ -77,7 +77,7 @@ module _ (s : Show) (o : Outcome) {rest : Outcome → Type 0} where
 
 module _ (s : Show) where
   abbrev Eight : Outcome → Type 0
-  Eight = When 8 (Accepted (loadOf s) → ⊥) Grants
+  Eight = 8 when (Accepted (loadOf s) → ⊥) else Grants
 
   -- outside its limits a show is told by its check
   outside-tells : (w : Refusal) {rest : Outcome → Type 0} → showCheck s ≡ Refused w → ShowThen s rest (refusedBy w)

@@ -25,7 +25,7 @@ use Rattle.sound.specs.declared.Test.the-variants as test
 use Rattle.sound.specs.Answers.{testOutcome}
 use Rattle.scheduler.specs.Answers.{nextOf, chosenBy, choiceOutcome}
 use Rattle.spare.specs.Answers.{spared, spareOutcome}
-use Rattle.promises.specs.Order.{refusedWith, When}
+use Rattle.promises.specs.Order.{refusedWith, _when_else_}
 
 -- what an answer comes to by its check: the refusal, or what is granted
 abbrev pub after : Check → Outcome → Outcome
@@ -60,14 +60,14 @@ most-tests n most = unless-tests (decLe n most) (λ b h. let f : ⊥ = omega ari
 
 module _ (o : Outcome) {fault : Type 0} {w : Refusal} {rest : Outcome → Type 0} {n : ℕ} where
   -- The last test: o is granted.
-  pub tells-last : {x : Check} → Tests fault w x → refusedBy w ≡ refusedWith n 0 → (x ≡ Within → rest o) → When n fault rest (after x o)
+  pub tells-last : {x : Check} → Tests fault w x → refusedBy w ≡ refusedWith n 0 → (x ≡ Within → rest o) → (n when fault else rest) (after x o)
   tells-last (clear h) e g = record { present = λ b. absurd (h b); absent = λ c. g refl }
   tells-last (faulty b) e g = record { present = λ c. e; absent = λ c. absurd (c b) }
 
   -- A test before others.
   pub tells-then :
       (y : Check) {x : Check} → Tests fault w x → refusedBy w ≡ refusedWith n 0 → (x ≡ Within → rest (after y o)) →
-      When n fault rest (after (first x y) o)
+      (n when fault else rest) (after (first x y) o)
   tells-then y (clear h) e g = record { present = λ b. absurd (h b); absent = λ c. g refl }
   tells-then y (faulty b) e g = record { present = λ c. e; absent = λ c. absurd (c b) }
 

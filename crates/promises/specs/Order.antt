@@ -54,15 +54,11 @@ refusedWith n place = record { number = n; place = place; values = [] }
 abbrev pub Grants : Outcome → Type 0
 Grants o = o ≡ granted (o .values)
 
--- Where the fault is present n is told, of place 0; where it is not, the rest says what is told.
-pub record When (n : ℕ) (fault : Type 0) (rest : Outcome → Type 0) (told : Outcome) : Type 0 where
+infixr 1 _when_else_
+-- Where the fault is present n is told, of place 0; where it is not, the rest says what is told. (19 when .. else 9 when .. else Grants)
+pub record _when_else_ (n : ℕ) (fault : Type 0) (rest : Outcome → Type 0) (told : Outcome) : Type 0 where
   pub present : fault → told ≡ refusedWith n 0
   pub absent : (fault → ⊥) → rest told
-
--- An order reads: 19 when .. else 9 when .. else Grants.
-infixr 1 _when_else_
-abbrev pub _when_else_ : ℕ → Type 0 → (Outcome → Type 0) → Outcome → Type 0
-n when fault else rest = When n fault rest
 
 infixr 0 _tells_
 abbrev pub _tells_ : Outcome → (Outcome → Type 0) → Type 0
