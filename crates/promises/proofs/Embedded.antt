@@ -1,5 +1,5 @@
 -- The calls for C. Assumes nothing.
-use Prim.Native.Nat.{ℕ, _/_, _%_, _≤_, _<_}
+use Prim.Native.Nat.{ℕ, _≤_, _<_}
 use mathlib.Core.Path.{_≡_, refl, sym, ap, subst, _∙_}
 use mathlib.Core.List.{List, [], _∷_}
 use mathlib.Core.Logic.{_↔_, inl, inr, Dec·and}
@@ -34,28 +34,14 @@ use Rattle.promises.specs.Refusals.{OneOf, Says}
 use Rattle.promises.specs.Embedded.{Embedded}
 use Rattle.promises.proofs.Answered.{answered}
 use Rattle.promises.proofs.Only.{only}
-use Rattle.promises.proofs.Numbered.{numbered}
+use Rattle.promises.proofs.OrderForC.{code-number, code-place, code-some, same-number, decided-tells, reasoned-tells}
 use Rattle.promises.proofs.Says.{same-verdict, one-more}
 
--- ---- one number
-
-code-number : (w : Refusal) → codeOf w % 256 ≡ numberOf w
-code-number w = let n = numbered .number w in omega arith
-
-code-place : (w : Refusal) → codeOf w / 256 ≡ placeOf w
-code-place w = let n = numbered .number w in omega arith
-
-code-some : (w : Refusal) → codeOf w ≡ 0 → ⊥
-code-some w e = let n = numbered .number w in omega arith
-
-same-number : (v w : Refusal) → codeOf v ≡ codeOf w → numberOf v ≡ numberOf w
-same-number v w e = sym (code-number v) ∙ ap (λ (n : ℕ). n % 256) e ∙ code-number w
+-- ---- answers
 
 yes-alone : (v : Verdict) → (verdictCode v ≡ 0) ↔ (v ≡ verdict.Accepted)
 yes-alone verdict.Accepted = (λ e. refl, λ e. refl)
 yes-alone (verdict.Refused w) = (λ e. absurd (code-some w e), λ e. accepted-refused e)
-
--- ---- answers
 
 enough? : (b : Slices) → Dec (Enough b)
 enough? b =
@@ -200,6 +186,8 @@ embedded =
       yes = yes-alone;
       decided-says = says-deciding;
       reasoned-says = says-reasoning;
+      decided-order = decided-tells;
+      reasoned-order = reasoned-tells;
       decided-kept = kept-deciding;
       reasoned-kept = kept-reasoning;
       report-none = report-none;

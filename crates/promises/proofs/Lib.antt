@@ -22,5 +22,6 @@ pub mod SpareTime
 pub mod Answered
 pub mod Alike
 pub mod Unseen
+pub mod OrderForC
 pub mod Embedded
 pub mod Demands

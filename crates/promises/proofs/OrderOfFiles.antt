@@ -6,9 +6,11 @@ use native.Mathlib.Omega.{arith}
 use lib.ListN.{length}
 use Rattle.drive.specs.declared.Show.{Show}
 use Rattle.drive.specs.declared.refusal.Check.{Check}
+use Rattle.drive.specs.declared.refusal.Check.the-variants.{Within}
 use Rattle.drive.specs.Decisions.{between?, counts?}
 use Rattle.drive.specs.Checks.{first, limitsCheck}
 use Rattle.drive.specs.Outcomes.{Outcome, granted, checkOutcome}
+use Rattle.drive.proofs.Checks.{first-within}
 use Rattle.showfile.specs.declared.Written.{Written}
 use Rattle.showfile.specs.File.{fileOf, zeroed}
 use Rattle.showfile.specs.Checks.{noteLength, distanced?, trailerCheck}
@@ -25,22 +27,31 @@ use Rattle.promises.proofs.Refusals.{reading-check}
 use Rattle.promises.proofs.OrderOfShows.{limits-tell}
 
 -- the check of a file whose trailer is its last twenty bytes
-abbrev fileCheck : List ℕ → Check
+abbrev pub fileCheck : List ℕ → Check
 fileCheck f = readCheck f (trailerAt f) (trailerIn f)
 
-file-tells : (f : List ℕ) (o : Outcome) {rest : Outcome → Type 0} → rest o → FileThen f rest (after (fileCheck f) o)
+pub file-tells :
+    (f : List ℕ) (o : Outcome) {rest : Outcome → Type 0} → (fileCheck f ≡ Within → rest o) → FileThen f rest (after (fileCheck f) o)
 unfolding readCheck trailerCheck
 file-tells f o g =
     let at = trailerAt f in
     let t = trailerIn f in
     let limits = limitsCheck (shownAt f at t) in
     tells-then o _ (unless-fails (between? 20 (length f) 1428)) refl
-    (λ e.
+    (λ size.
     rw (after-first (trailerCheck at t) limits o)
     (tells-then (after limits o) _ (unless-fails (counts? (t .laid) (t .playing))) refl
-    (λ e.
+    (λ counts.
     tells-then (after limits o) _ (unless-fails (distanced? at t)) refl
-    (λ e. tells-last (after limits o) (most-tests (noteLength at t) 1024) refl (λ e. limits-tell (shownAt f at t) o (λ e. g))))))
+    (λ far.
+    tells-last (after limits o) (most-tests (noteLength at t) 1024) refl
+    (λ note.
+    limits-tell (shownAt f at t) o
+    (λ e. g (first-within _ _ size ∙ first-within _ _ (first-within _ _ counts ∙ first-within _ _ far ∙ note) ∙ e)))))))
+
+pub read-check : (f : List ℕ) → readOf f .check ≡ fileCheck f
+unfolding readOf readAt
+read-check f = reading-check (fileCheck f) _ _
 
 write-tells : (x : Show) (note : List ℕ) (room : ℕ) → WriteOrder x note room (after (writeCheck x note room) (granted []))
 unfolding writeCheck
@@ -60,21 +71,18 @@ told-tells is most b r x (told t h l) = record { present = λ s. absurd (let f :
 told-tells is most b r x (short l) = record { present = λ s. refl; absent = λ c. absurd (c l) }
 
 copy-tells : (f : List ℕ) (room : ℕ) → FileThen f (16 when room < length f else Grants) (after (copyCheck f room) (granted []))
-unfolding copyCheck readOf readAt
+unfolding copyCheck
 copy-tells f room =
     let k = roomCheck (length f) room in
-    let file : readOf f .check ≡ fileCheck f = reading-check (fileCheck f) _ _ in
     let e : after (copyCheck f room) (granted []) ≡ after (fileCheck f) (after k (granted [])) =
-    ap (λ (x : Check). after (first x k) (granted [])) file ∙ after-first (fileCheck f) k (granted []) in
-    rw e (file-tells f (after k (granted [])) (tells-last _ (most-tests (length f) room) refl (λ e. refl)))
+    ap (λ (x : Check). after (first x k) (granted [])) (read-check f) ∙ after-first (fileCheck f) k (granted []) in
+    rw e (file-tells f (after k (granted [])) (λ e. tells-last _ (most-tests (length f) room) refl (λ e. refl)))
 
 pub order-of-files : OfFiles
-unfolding readOf readAt writtenOf rereadOf copiedOf
+unfolding writtenOf rereadOf copiedOf
 order-of-files =
     record {
-      reading = λ f.
-          rw (outcome-by (reading-check (fileCheck f) (shownAt f (trailerAt f) (trailerIn f)) (noteLength (trailerAt f) (trailerIn f))))
-          (file-tells f (granted []) refl);
+      reading = λ f. rw (outcome-by (read-check f)) (file-tells f (granted []) (λ e. refl));
       writing = λ x note room. rw (outcome-by (written-check (writeCheck x note room) (length (fileOf x note)))) (write-tells x note room);
       rereading = λ x note room. rw (outcome-by (reading-check (writeCheck x note room) (zeroed x) (length note))) (write-tells x note room);
       copying = λ f room. rw (outcome-by (written-check (copyCheck f room) (length f))) (copy-tells f room);

@@ -88,9 +88,14 @@ module _ (s : Show) where
   within-tells : (o : Outcome) {rest : Outcome → Type 0} → ShowWithin s → rest o → ShowThen s rest o
   within-tells o {rest} h g = subst (λ (k : Check). ShowThen s rest (after k o)) (within-check s h) (show-tells s o (λ e. g))
 
+  pub eight-tells : (d : Decision) → ShowWithin s → DecisionIs s d → Eight (verdictOutcome (d .verdict))
+  eight-tells d h (accepted m _ g) = record { present = λ n. absurd (n (m, g .good)); absent = λ c. refl }
+  eight-tells d h (no-set _ none) = record { present = λ n. refl; absent = λ c. absurd (c none) }
+  eight-tells d h (outside w e) = within-refused (sym (within-check s h) ∙ e)
+
   decide-tells : (d : Decision) → DecisionIs s d → ShowThen s Eight (verdictOutcome (d .verdict))
-  decide-tells d (accepted m h g) = within-tells (granted []) h (record { present = λ n. absurd (n (m, g .good)); absent = λ c. refl })
-  decide-tells d (no-set h none) = within-tells (refusedBy refusal.NoSet) h (record { present = λ n. refl; absent = λ c. absurd (c none) })
+  decide-tells d (accepted m h g) = within-tells _ h (eight-tells d h (accepted m h g))
+  decide-tells d (no-set h none) = within-tells _ h (eight-tells d h (no-set h none))
   decide-tells d (outside w e) = outside-tells w e
 
   try-tells : (m : List ℕ) (t : Trial) → TrialIs s m t → ShowThen s Grants (answerOutcome (t .answer))

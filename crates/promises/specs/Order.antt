@@ -61,6 +61,7 @@ pub record _when_else_ (n : ℕ) (fault : Type 0) (rest : Outcome → Type 0) (t
   pub absent : (fault → ⊥) → rest told
 
 infixr 0 _tells_
+-- What is told follows the order.
 abbrev pub _tells_ : Outcome → (Outcome → Type 0) → Type 0
 told tells order = order told
 
@@ -171,7 +172,7 @@ pub record OfRuns : Type 0 where
       (r : Run) → checkOutcome (startOf r .check) tells
       19 when Damaged r else 18 when r .started ≡ true else 13 when Reading r else 9 when playing r ≡ 0 else 15 when slackTime r <ℤ pos 0 else Grants
 
--- ---- all
+-- ---- every call
 
 pub record Order : Type 0 where
   pub shows : OfShows
