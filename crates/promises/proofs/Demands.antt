@@ -19,8 +19,9 @@ use Rattle.promises.proofs.Reports.{reports}
 use Rattle.promises.proofs.Reasons.{reasons}
 use Rattle.promises.proofs.Sayings.{sayings}
 use Rattle.promises.proofs.Runs.{hands-back, runs}
-use Rattle.promises.proofs.Says.{numbered}
+use Rattle.promises.proofs.Numbered.{numbered}
 use Rattle.promises.proofs.Answered.{answered}
+use Rattle.promises.proofs.Only.{only}
 use Rattle.promises.proofs.Order.{order}
 use Rattle.promises.proofs.Refusals.{buffers, empty}
 use Rattle.promises.proofs.Embedded.{embedded}
@@ -31,7 +32,7 @@ pub demands : Demands
 demands =
     record {
       first =
-          record { answered = answered; numbered = numbered; order = order; runs = hands-back; buffers = buffers; empty = empty; embedded = embedded };
+          record { answered = answered; numbered = numbered; only = only; order = order; runs = hands-back; buffers = buffers; empty = empty; embedded = embedded };
       second =
           record { verdicts = verdicts; runs = runs; unseen = unseen; spare = spare-time; table = table; reports = reports; reasons = reasons; sayings = sayings; trips = trips };
       third = record { lighter = lighter-shows; spare = spare };

@@ -1,5 +1,5 @@
 -- The calls for C. Assumes nothing.
-use Prim.Native.Nat.{ℕ, _/_, _%_, _≤_, _<_}
+use Prim.Native.Nat.{ℕ, _≤_, _<_}
 use mathlib.Core.Path.{_≡_, refl, sym, ap, subst, _∙_}
 use mathlib.Core.List.{List, [], _∷_}
 use mathlib.Core.Logic.{_↔_, inl, inr, Dec·and}
@@ -33,28 +33,15 @@ use Rattle.embed.specs.Answers as answers
 use Rattle.promises.specs.Refusals.{OneOf, Says}
 use Rattle.promises.specs.Embedded.{Embedded}
 use Rattle.promises.proofs.Answered.{answered}
-use Rattle.promises.proofs.Order.{order}
-use Rattle.promises.proofs.Says.{numbered, same-verdict, one-more}
+use Rattle.promises.proofs.Only.{only}
+use Rattle.promises.proofs.OrderForC.{code-number, code-place, code-some, same-number, decided-tells, reasoned-tells}
+use Rattle.promises.proofs.Says.{same-verdict, one-more}
 
--- ---- one number
-
-code-number : (w : Refusal) → codeOf w % 256 ≡ numberOf w
-code-number w = let n = numbered .number w in omega arith
-
-code-place : (w : Refusal) → codeOf w / 256 ≡ placeOf w
-code-place w = let n = numbered .number w in omega arith
-
-code-some : (w : Refusal) → codeOf w ≡ 0 → ⊥
-code-some w e = let n = numbered .number w in omega arith
-
-same-number : (v w : Refusal) → codeOf v ≡ codeOf w → numberOf v ≡ numberOf w
-same-number v w e = sym (code-number v) ∙ ap (λ (n : ℕ). n % 256) e ∙ code-number w
+-- ---- answers
 
 yes-alone : (v : Verdict) → (verdictCode v ≡ 0) ↔ (v ≡ verdict.Accepted)
 yes-alone verdict.Accepted = (λ e. refl, λ e. refl)
 yes-alone (verdict.Refused w) = (λ e. absurd (code-some w e), λ e. accepted-refused e)
-
--- ---- answers
 
 enough? : (b : Slices) → Dec (Enough b)
 enough? b =
@@ -103,9 +90,9 @@ among n (inr (inr (inr (inl e)))) = inr (inr (inr (inr (inr (inr (inl e))))))
 among n (inr (inr (inr (inr (inl e))))) = inr (inr (inr (inr (inr (inr (inr (inl e)))))))
 
 of-file : (f : List ℕ) (d : Decision) → FileDecisionIs f d → Says verdict.Refused (d .verdict) (1 ∷ 2 ∷ 3 ∷ 4 ∷ 5 ∷ 6 ∷ 7 ∷ 8 ∷ [])
-of-file f d (answers.read _ e h) w p = among (numberOf w) (order .deciding (readOf f .show) d h w p)
+of-file f d (answers.read _ e h) w p = among (numberOf w) (only .deciding (readOf f .show) d h w p)
 of-file f d (answers.unread v e) w p =
-    one-more (1 ∷ 2 ∷ 3 ∷ 4 ∷ 5 ∷ 6 ∷ 7 ∷ []) (8 ∷ []) (numberOf w) (order .reading f w (e ∙ ap check.Refused (same-verdict p)))
+    one-more (1 ∷ 2 ∷ 3 ∷ 4 ∷ 5 ∷ 6 ∷ 7 ∷ []) (8 ∷ []) (numberOf w) (only .reading f w (e ∙ ap check.Refused (same-verdict p)))
 
 decided-by :
     (f : List ℕ) (d : Decision) (v : Verdict) → d .verdict ≡ v → FileDecisionIs f d → (w : Refusal) → verdictCode v ≡ codeOf w →
@@ -127,8 +114,8 @@ reason-among n (inr (inr (inl e))) = inr (inr (inr (inr (inr (inl e)))))
 reason-among n (inr (inr (inr (inl e)))) = inr (inr (inr (inr (inr (inr (inl e))))))
 
 reason-of-file : (f : List ℕ) (p : Reason) → FileReasonIs f p → Says reason.Refused p (1 ∷ 2 ∷ 3 ∷ 4 ∷ 5 ∷ 6 ∷ 7 ∷ [])
-reason-of-file f p (answers.read _ e h) w q = reason-among (numberOf w) (order .why (readOf f .show) p h w q)
-reason-of-file f p (answers.unread v e) w q = order .reading f w (e ∙ ap check.Refused (let same : v ≡ w = cc in same))
+reason-of-file f p (answers.read _ e h) w q = reason-among (numberOf w) (only .why (readOf f .show) p h w q)
+reason-of-file f p (answers.unread v e) w q = only .reading f w (e ∙ ap check.Refused (let same : v ≡ w = cc in same))
 
 reasoned-by :
     (f : List ℕ) (p q : Reason) → p ≡ q → FileReasonIs f p → (w : Refusal) → reasonCode q ≡ codeOf w →
@@ -199,6 +186,8 @@ embedded =
       yes = yes-alone;
       decided-says = says-deciding;
       reasoned-says = says-reasoning;
+      decided-order = decided-tells;
+      reasoned-order = reasoned-tells;
       decided-kept = kept-deciding;
       reasoned-kept = kept-reasoning;
       report-none = report-none;

@@ -6,7 +6,13 @@ pub mod Lighter
 pub mod Printed
 pub mod Reports
 pub mod Runs
+pub mod Numbered
 pub mod Says
+pub mod Only
+pub mod Tells
+pub mod OrderOfRuns
+pub mod OrderOfShows
+pub mod OrderOfFiles
 pub mod Order
 pub mod Reasons
 pub mod Sayings
@@ -17,5 +23,6 @@ pub mod SpareTime
 pub mod Answered
 pub mod Alike
 pub mod Unseen
+pub mod OrderForC
 pub mod Embedded
 pub mod Demands

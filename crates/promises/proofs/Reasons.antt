@@ -37,7 +37,7 @@ use Rattle.reason.proofs.Once.{reason-once}
 use Rattle.reason.proofs.Unused.{alike-reason, alike-load}
 use Rattle.promises.specs.Refusals.{OneOf}
 use Rattle.promises.proofs.Says.{same-refusal, same-verdict}
-use Rattle.promises.proofs.Order.{order, of-refused}
+use Rattle.promises.proofs.Only.{only, of-refused}
 use Rattle.promises.specs.Reasons.{ForEight, WhenTrue, AsDecided, ExactSize, Reasons, loadSum, fullLoad}
 
 -- ---- when true
@@ -79,7 +79,7 @@ module _ (s : Show) where
 
 -- The limits do not say 8.
 not-eight : {A : Type 0} (s : Show) → showCheck s ≡ check.Refused NoSet → A
-not-eight s e = by (order .check s NoSet e)
+not-eight s e = by (only .check s NoSet e)
   where
     by : {A : Type 0} → OneOf (2 ∷ 5 ∷ 6 ∷ 7 ∷ []) 8 → A
     by (inl z) = absurd (let f : ⊥ = omega arith in f)

@@ -32,7 +32,7 @@ use Rattle.run.specs.declared.Opened.{Opened}
 use Rattle.run.specs.Opening.{OpenIs, openedBy, noRun}
 use Rattle.promises.specs.Refusals.{Buffers, Empty}
 use Rattle.promises.proofs.Says.{same-verdict, same-answer, holds-refused, fails-refused}
-use Rattle.promises.proofs.Order.{opened-refused}
+use Rattle.promises.proofs.Only.{opened-refused}
 
 -- ---- buffers
 
@@ -40,7 +40,7 @@ over-refused : (k : Check) (file b : List ℕ) (w : Refusal) → k ≡ Refused w
 over-refused Within file b w e = within-refused e
 over-refused (Refused v) file b w e = refl
 
-reading-check : (k : Check) (x : Show) (n : ℕ) → reading k x n .check ≡ k
+pub reading-check : (k : Check) (x : Show) (n : ℕ) → reading k x n .check ≡ k
 reading-check Within x n = refl
 reading-check (Refused v) x n = refl
 

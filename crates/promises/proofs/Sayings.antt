@@ -48,7 +48,7 @@ use Rattle.promises.specs.Files.{Shaped}
 use Rattle.promises.specs.Refusals.{OneOf}
 use Rattle.promises.specs.Reasons.{ForEight}
 use Rattle.promises.specs.Sayings.{Sayings}
-use Rattle.promises.proofs.Order.{order}
+use Rattle.promises.proofs.Only.{only}
 use Rattle.promises.proofs.Reasons.{reasons}
 use Rattle.promises.proofs.Table.{table, settles, all, both}
 use Rattle.promises.proofs.Trips.{trips}
@@ -107,7 +107,7 @@ either :
     ((r : Reason) × (((r ≡ reason.None) ⊎ ForEight r) × (t ≡ reasonText r (tenths (loadOf (readOf f .show))))))
     ⊎ ((w : Refusal) × (OneOf (1 ∷ 2 ∷ 3 ∷ 4 ∷ 5 ∷ 6 ∷ 7 ∷ []) (numberOf w) × (t ≡ refusalText w)))
 either f t (because r e is) = inl (r, (reasons .when-true (readOf f .show) r is .one (read-within f e), refl))
-either f t (unread w e) = inr (w, (order .reading f w e, refl))
+either f t (unread w e) = inr (w, (only .reading f w e, refl))
 
 pub sayings : Sayings
 unfolding showCheck firstBelow counts? drive? layout? session? decLt costOf sumTo listed padded zeroed digits decimal tenths loadedOf

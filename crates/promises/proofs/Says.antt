@@ -1,42 +1,20 @@
--- The nineteen numbers, and the laws by which a call says none but some of them. Assumes nothing.
-use Prim.Native.Nat.{ℕ, zero, suc, _-_}
-use mathlib.Core.Path.{_≡_, refl, sym, ap, subst, _∙_}
+-- The laws by which a call says none but some of the numbers. Assumes nothing.
+use Prim.Native.Nat.{ℕ, zero, suc}
+use mathlib.Core.Path.{_≡_, refl, sym, ap, subst}
 use mathlib.Core.Bool.{Bool, true, false, _||_}
 use mathlib.Core.List.{List, [], _∷_, _++_}
-use mathlib.Core.Logic.{_⊎_, inl, inr}
+use mathlib.Core.Logic.{inl, inr}
 use native.Mathlib.Omega.{arith}
-use lib.Dec.{T, leb, leb→le, eqb, eqb→eq}
+use lib.Dec.{T, eqb, eqb→eq}
 use lib.IntN.{ℤ}
-use lib.ListN.{getD}
 use Rattle.drive.specs.declared.Show.{Show}
-use Rattle.drive.specs.declared.refusal.Told.{Told}
 use Rattle.drive.specs.declared.refusal.Refusal.{Refusal}
-use Rattle.drive.specs.declared.refusal.Refusal.the-variants.{
-  FileLength,
-  Counts,
-  Distances,
-  NoteLength,
-  DriveLimits,
-  LayoutLimits,
-  SessionLimits,
-  NoSet,
-  NoSession,
-  TooMuch,
-  TooLong,
-  NotStarted,
-  ReadUnderway,
-  PutLimit,
-  NegativeSlack,
-  BufferShort,
-  NothingUnderway,
-  AlreadyStarted,
-  Damaged,
-}
+use Rattle.drive.specs.declared.refusal.Refusal.the-variants.{Counts, DriveLimits, LayoutLimits, SessionLimits}
 use Rattle.drive.specs.declared.refusal.Check.{Check}
 use Rattle.drive.specs.declared.refusal.Check.the-variants.{Within, Refused}
-use Rattle.drive.specs.Limits.{Between, layoutAt, sessionAt}
+use Rattle.drive.specs.Limits.{layoutAt, sessionAt}
 use Rattle.drive.specs.Decisions.{counts?, drive?, layout?, session?}
-use Rattle.drive.specs.Refusals.{numberOf, placeOf, toldOf}
+use Rattle.drive.specs.Refusals.{numberOf}
 use Rattle.drive.specs.Checks.{unless, first, firstBelow, limitsCheck, showCheck}
 use Rattle.drive.proofs.Checks.{within-refused}
 use Rattle.cost.specs.declared.Worst.the-variants as worst
@@ -51,56 +29,7 @@ use Rattle.run.specs.Answers.{moved}
 use Rattle.scheduler.specs.declared.Choice.the-variants as choice
 use Rattle.spare.specs.declared.Spare.the-variants as spare
 use Rattle.spare.specs.Answers.{spared}
-use Rattle.promises.specs.Refusals.{OneOf, Says, Numbered}
-
--- ---- nineteen numbers
-
--- the refusal that a number and a place tell
-abbrev meant : Told → Refusal
-meant t =
-    getD
-    (FileLength ∷ Counts ∷ Distances ∷ NoteLength ∷ DriveLimits ∷ LayoutLimits (t .place) ∷ SessionLimits (t .place)
-    ∷ NoSet ∷ NoSession ∷ TooMuch ∷ TooLong ∷ NotStarted ∷ ReadUnderway ∷ PutLimit ∷ NegativeSlack ∷ BufferShort ∷ NothingUnderway
-    ∷ AlreadyStarted ∷ [])
-    (t .number - 1) Damaged
-
-record Fact (w : Refusal) : Type 0 where
-  number : Between 1 (numberOf w) 19
-  place : OneOf (6 ∷ 7 ∷ []) (numberOf w) ⊎ (placeOf w ≡ 0)
-  back : meant (toldOf w) ≡ w
-
-plain : (w : Refusal) → T (leb 1 (numberOf w)) → T (leb (numberOf w) 19) → placeOf w ≡ 0 → meant (toldOf w) ≡ w → Fact w
-plain w low high none back =
-    record { number = record { low = leb→le 1 (numberOf w) low; high = leb→le (numberOf w) 19 high }; place = inr none; back = back }
-
-fact : (w : Refusal) → Fact w
-fact FileLength = plain FileLength tt tt refl refl
-fact Counts = plain Counts tt tt refl refl
-fact Distances = plain Distances tt tt refl refl
-fact NoteLength = plain NoteLength tt tt refl refl
-fact DriveLimits = plain DriveLimits tt tt refl refl
-fact (LayoutLimits i) = record { number = record { low = omega arith; high = omega arith }; place = inl (inl refl); back = refl }
-fact (SessionLimits i) = record { number = record { low = omega arith; high = omega arith }; place = inl (inr (inl refl)); back = refl }
-fact NoSet = plain NoSet tt tt refl refl
-fact NoSession = plain NoSession tt tt refl refl
-fact TooMuch = plain TooMuch tt tt refl refl
-fact TooLong = plain TooLong tt tt refl refl
-fact NotStarted = plain NotStarted tt tt refl refl
-fact ReadUnderway = plain ReadUnderway tt tt refl refl
-fact PutLimit = plain PutLimit tt tt refl refl
-fact NegativeSlack = plain NegativeSlack tt tt refl refl
-fact BufferShort = plain BufferShort tt tt refl refl
-fact NothingUnderway = plain NothingUnderway tt tt refl refl
-fact AlreadyStarted = plain AlreadyStarted tt tt refl refl
-fact Damaged = plain Damaged tt tt refl refl
-
-pub numbered : Numbered
-numbered =
-    record {
-      number = λ w. fact w .number;
-      known = λ v w e. sym (fact v .back) ∙ ap meant e ∙ fact w .back;
-      place = λ w. fact w .place;
-    }
+use Rattle.promises.specs.Refusals.{OneOf, Says}
 
 -- ---- one of some numbers
 

@@ -26,7 +26,8 @@ use Rattle.promises.specs.Reasons.{Reasons}
 use Rattle.promises.specs.Sayings.{Sayings}
 use Rattle.promises.specs.Runs.{HandsBack, Runs}
 use Rattle.promises.specs.Answered.{Answered}
-use Rattle.promises.specs.Refusals.{Numbered, Order, Buffers, Empty}
+use Rattle.promises.specs.Refusals.{Numbered, Only, Buffers, Empty}
+use Rattle.promises.specs.Order.{Order}
 use Rattle.promises.specs.Embedded.{Embedded}
 use Rattle.promises.specs.SpareTime.{SpareTime}
 use Rattle.promises.specs.Unseen.{Unseen}
@@ -37,6 +38,8 @@ pub record First : Type 0 where
   pub answered : Answered
   -- .. or a numbered refusal;
   pub numbered : Numbered
+  pub only : Only
+  -- (of the faults that are present, the first in the call's order)
   pub order : Order
   -- we check, the caller need not. (No public call has a `requires`: what stands here is of every file, every show and every run.)
   -- After a refusal the run ..

@@ -5,6 +5,7 @@ pub mod Lighter
 pub mod Reports
 pub mod Runs
 pub mod Refusals
+pub mod Order
 pub mod Reasons
 pub mod Sayings
 pub mod SpareTime

@@ -12,8 +12,9 @@ use Rattle.drive.specs.declared.refusal.Check.the-variants.{Refused}
 use Rattle.drive.specs.Limits.{Between, noShow}
 use Rattle.drive.specs.Refusals.{numberOf, placeOf, toldOf}
 use Rattle.drive.specs.Checks.{showCheck}
+use Rattle.drive.specs.Outcomes.{Outcome, checkOutcome}
 use Rattle.cost.specs.declared.Worst.the-variants as worst
-use Rattle.cost.specs.Worst.{worstOf}
+use Rattle.cost.specs.Worst.{worstOf, worstOutcome}
 use Rattle.showfile.specs.declared.Written.{Written}
 use Rattle.showfile.specs.Answers.{readOf, noteOf}
 use Rattle.filing.specs.Answers.{writtenOf, bufferOf}
@@ -24,22 +25,23 @@ use Rattle.explain.specs.Answers.{ExplainIs}
 use Rattle.reason.specs.declared.Reason.{Reason}
 use Rattle.reason.specs.declared.Reason.the-variants as reason
 use Rattle.reason.specs.declared.Loaded.the-variants as loaded
-use Rattle.reason.specs.Answers.{ReasonIs, loadedOf}
+use Rattle.reason.specs.Answers.{ReasonIs, loadedOf, reasonOutcome, loadedOutcome}
 use Rattle.verdict.specs.declared.Decision.{Decision}
 use Rattle.verdict.specs.declared.Trial.{Trial}
 use Rattle.verdict.specs.declared.Verdict.the-variants as verdict
 use Rattle.verdict.specs.declared.Answer.the-variants as answer
-use Rattle.verdict.specs.Answers.{DecisionIs, TrialIs, refusedFor, untriedFor}
+use Rattle.verdict.specs.Answers.{DecisionIs, TrialIs, refusedFor, untriedFor, verdictOutcome, answerOutcome}
 use Rattle.run.specs.declared.State.{State}
 use Rattle.run.specs.declared.Run.{Run}
 use Rattle.run.specs.declared.Opened.{Opened}
 use Rattle.run.specs.Opening.{OpenIs, noRun}
+use Rattle.sound.specs.Answers.{testOutcome}
 use Rattle.player.specs.Answers.{drawnOf}
 use Rattle.playback.specs.Answers.{passOf, takeOf, finishOf}
 use Rattle.scheduler.specs.declared.Choice.the-variants as choice
-use Rattle.scheduler.specs.Answers.{chooseOf}
+use Rattle.scheduler.specs.Answers.{chooseOf, choiceOutcome}
 use Rattle.spare.specs.declared.Spare.the-variants as spare
-use Rattle.spare.specs.Answers.{workaheadOf, slackOf, startOf}
+use Rattle.spare.specs.Answers.{workaheadOf, slackOf, startOf, spareOutcome}
 
 -- one of these numbers
 abbrev pub OneOf : List ℕ → ℕ → Type 0
@@ -50,15 +52,31 @@ OneOf (k ∷ l) n = (n ≡ k) ⊎ OneOf l n
 abbrev pub Says : {A : Type 0} → (Refusal → A) → A → List ℕ → Type 0
 Says refused answer numbers = (w : Refusal) → answer ≡ refused w → OneOf numbers (numberOf w)
 
+-- An answer is known by its number, its place and its values.
+abbrev pub KnownBy : {A : Type 0} → (A → Outcome) → Type 0
+KnownBy {A} outcome = (a b : A) → outcome a ≡ outcome b → a ≡ b
+
+pub record Known : Type 0 where
+  pub check : KnownBy checkOutcome
+  pub worst : KnownBy worstOutcome
+  pub verdict : KnownBy verdictOutcome
+  pub answer : KnownBy answerOutcome
+  pub reason : KnownBy reasonOutcome
+  pub loaded : KnownBy loadedOutcome
+  pub test : KnownBy testOutcome
+  pub choice : KnownBy choiceOutcome
+  pub spare : KnownBy spareOutcome
+
 pub record Numbered : Type 0 where
   -- Every refusal has a number from 1 to 19, and by its number and place it is known.
   pub number : (w : Refusal) → Between 1 (numberOf w) 19
   pub known : (v w : Refusal) → toldOf v ≡ toldOf w → v ≡ w
   -- The place is 0 but for 6 and 7.
   pub place : (w : Refusal) → OneOf (6 ∷ 7 ∷ []) (numberOf w) ⊎ (placeOf w ≡ 0)
+  pub answers : Known
 
--- No call says another number than these. They stand in the order of its tests, which its definition gives.
-pub record Order : Type 0 where
+-- No call says another number than these. Which of them, and when: record Order (specs/Order).
+pub record Only : Type 0 where
   pub check : (s : Show) → Says Refused (showCheck s) (2 ∷ 5 ∷ 6 ∷ 7 ∷ [])
   pub worst-time : (s : Show) (i n : ℕ) → Says worst.Refused (worstOf s i n) (2 ∷ 5 ∷ 6 ∷ 7 ∷ 9 ∷ [])
   pub reading : (f : List ℕ) → Says Refused (readOf f .check) (1 ∷ 2 ∷ 3 ∷ 4 ∷ 5 ∷ 6 ∷ 7 ∷ [])
