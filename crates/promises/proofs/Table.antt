@@ -21,7 +21,7 @@ use Rattle.drive.proofs.Shows.{check-within}
 use Rattle.cost.specs.Bound.{worstTime, edges, ceil}
 use Rattle.cost.specs.Worst.{costOf, worstOf}
 use Rattle.theory.specs.Sum.{sumTo}
-use Rattle.theory.specs.Counts.{Smallest, unit, roundTime, needed}
+use Rattle.theory.specs.Counts.{unit, roundTime, needed}
 use Rattle.theory.specs.Rounds.{need, asked, next, turns, NotPast}
 use Rattle.theory.specs.Shows.{loadOf}
 use Rattle.theory.proofs.Rounds.{start-below, turns-below, still-least, least-smallest, unfit-refuses}
@@ -32,8 +32,8 @@ use Rattle.verdict.specs.declared.Verdict.the-variants.{Accepted}
 use Rattle.verdict.specs.declared.Decision.{Decision}
 use Rattle.verdict.specs.Answers.{DecisionIs, accepted, no-set, TrialIs, fails, acceptedWith, setOf, timedAs, verdictOutcome}
 use Rattle.verdict.proofs.Once.{decision-once}
-use Rattle.promises.proofs.Worked.{p8, p9, p10}
-use Rattle.promises.specs.Numbers.{Table, RefusedEight, Against, X, Z, far, buffered, clip, slower, showOf, places, yes-with, no-set-found}
+use Rattle.promises.proofs.Worked.{p8, uneven-starts, p9, p10}
+use Rattle.promises.specs.Numbers.{Table, RefusedEight, Against, X, Z, far, buffered, clip, slower, faster, showOf, places, yes-with, no-set-found}
 
 -- ---- tests that compute
 
@@ -204,6 +204,7 @@ table =
       p6 = record { hundred = p6-at };
       p7 = record { under = settles (showOf Z (replicate 9 clip ++ (slower ∷ []))) refl 1970 309090000 refl tt tt };
       p8 = p8;
+      uneven = uneven-starts (settles (showOf X (clip ∷ faster ∷ [])) refl 2 94000 refl tt tt);
       p9 = p9;
       p10 = p10;
     }

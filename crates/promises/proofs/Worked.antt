@@ -18,7 +18,7 @@ use Rattle.theory.specs.Floor.{floorZ}
 use Rattle.theory.specs.Spare.{less?, leastTo, slackBy, same?, before?, rank}
 use Rattle.theory.specs.Counts.{Smallest}
 use Rattle.theory.specs.Shows.{loadOf, Easier, eased}
-use Rattle.verdict.specs.Answers.{setOf}
+use Rattle.verdict.specs.Answers.{DecisionIs, setOf}
 use Rattle.run.specs.declared.Run.{Run}
 use Rattle.run.specs.Sound.{SoundRun}
 use Rattle.run.specs.Decisions.{below?, some?, show?, good?, false?, true?, waiting?, state?, named?, nothing?, room?, put?, mayRead?, underway?, cycle?, sound?}
@@ -28,7 +28,7 @@ use Rattle.playback.proofs.Calls.{pass-granted}
 use Rattle.spare.specs.declared.Spared.{Spared}
 use Rattle.spare.specs.Times.{named, running}
 use Rattle.spare.proofs.Calls.{workahead-time, slack-time, start-begins, begin-granted}
-use Rattle.promises.specs.Numbers.{X, clip, showOf, places, runOf, loaded, eighth, clocked, P8, P9, P10}
+use Rattle.promises.specs.Numbers.{X, clip, faster, showOf, places, yes-with, runOf, loaded, eighth, uneven, clocked, P8, Uneven, P9, P10}
 use Rattle.promises.specs.Lighter.{Worse}
 
 -- ---- a test that computes
@@ -60,6 +60,27 @@ p8 =
       table = refl;
       start = ap (λ (m : Moved). m .check) (sym begins);
       order = ap (λ (m : Moved). m .run .order) (sym begins);
+    }
+
+-- ---- beside p8: unequal counts
+
+uneven-sound : SoundRun uneven
+unfolding told sound? show? good? below? state? named? some? cycle? false? true? waiting? nothing? room? put? mayRead? underway? counts? drive? layout? session? between? sumTo costOf worstTime edges ceil listed decLe decLt ℕ-discrete Dec·and
+uneven-sound = from-told (sound? uneven) tt
+
+pub uneven-starts : DecisionIs (showOf X (clip ∷ faster ∷ [])) (yes-with 94000 (1 ∷ 2 ∷ []) (42000 ∷ 52000 ∷ [])) → Uneven
+unfolding floorZ leastTo slackBy before? rank less? same? ℕ-discrete sumTo costOf worstTime edges ceil listed decLe decLt named running
+uneven-starts decided =
+    let begins = start-begins uneven uneven-sound refl refl _ (omega arith) (begin-granted uneven (running uneven) (λ n. absurd (n .lt)) refl) in
+    record {
+      counts = decided;
+      first = sym (workahead-time uneven 0 uneven-sound (pos 94000) (omega arith) refl);
+      second = sym (workahead-time uneven 1 uneven-sound (pos 52000) (omega arith) refl);
+      slack = sym (slack-time uneven uneven-sound (pos 0) (omega arith) refl);
+      start = ap (λ (m : Moved). m .check) (sym begins);
+      order = ap (λ (m : Moved). m .run .order) (sym begins);
+      place = ap (λ (m : Moved). m .run .place) (sym begins);
+      left = ap (λ (m : Moved). m .run .left) (sym begins);
     }
 
 -- ---- p9 and p10

@@ -173,6 +173,24 @@ pub record P8 : Type 0 where
   pub start : startOf eighth .check ≡ Within
   pub order : startOf eighth .run .order ≡ places (1 ∷ 2 ∷ 0 ∷ [])
 
+-- Beside p8, unequal counts: two on X, the second at twice the rate: 1 and 2, L = 94,000. Workaheads 94,000 and 52,000: slack 0. It starts with the
+-- second, of whose count 2 are left.
+abbrev pub faster : Session
+faster = record { rate = 1024000; cushion = 1; buffer = 200000000; layout = 0 }
+
+abbrev pub uneven : Run
+uneven = runOf (showOf X (clip ∷ faster ∷ [])) (1 ∷ 2 ∷ []) (loaded 48129 ∷ loaded 53249 ∷ []) false
+
+pub record Uneven : Type 0 where
+  pub counts : DecisionIs (showOf X (clip ∷ faster ∷ [])) (yes-with 94000 (1 ∷ 2 ∷ []) (42000 ∷ 52000 ∷ []))
+  pub first : workaheadOf uneven 0 ≡ record { spare = Time (pos 94000); run = uneven }
+  pub second : workaheadOf uneven 1 ≡ record { spare = Time (pos 52000); run = uneven }
+  pub slack : slackOf uneven ≡ record { spare = Time (pos 0); run = uneven }
+  pub start : startOf uneven .check ≡ Within
+  pub order : startOf uneven .run .order ≡ places (1 ∷ 0 ∷ [])
+  pub place : startOf uneven .run .place ≡ 0
+  pub left : startOf uneven .run .left ≡ 2
+
 -- p9. One microbyte behind the cushion: workahead -1.
 abbrev pub clocked : ℕ → Run
 clocked C = runOf (showOf X (clip ∷ [])) (1 ∷ []) (record { put = 1; taken = 1; clock = C } ∷ []) true
@@ -196,5 +214,6 @@ pub record Table : Type 0 where
   pub p6 : P6
   pub p7 : P7
   pub p8 : P8
+  pub uneven : Uneven
   pub p9 : P9
   pub p10 : P10
