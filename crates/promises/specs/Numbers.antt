@@ -1,4 +1,5 @@
--- The worked numbers of docs/RULES.md, section 5, as one statement over one table. proofs/Table.antt proves it.
+-- The worked numbers of docs/RULES.md, section 5, and beside p8 a run with unequal counts, as one statement over one table. proofs/Table.antt
+-- proves it.
 use Prim.Native.Nat.{ℕ, _*_, _<_}
 use mathlib.Core.Path.{_≡_}
 use mathlib.Core.Bool.{Bool, true, false}
