@@ -4,3 +4,4 @@ pub mod Sizes
 pub mod Passed
 pub mod Stops
 pub mod Filed
+pub mod Unused

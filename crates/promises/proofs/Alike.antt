@@ -17,6 +17,7 @@ use Rattle.drive.specs.Checks.{unless, first}
 use Rattle.drive.specs.Limits.{ShowWithin}
 use Rattle.drive.proofs.Checks.{unless-kept, unless-broken, unless-within, first-left}
 use Rattle.drive.proofs.Shows.{check-within, within-check, alike-check}
+use Rattle.filing.proofs.Unused.{told-same}
 use Rattle.theory.specs.Counts.{Good}
 use Rattle.theory.specs.Shows.{loadOf}
 use Rattle.theory.proofs.Rounds.{good-same}
@@ -169,11 +170,7 @@ sound-same r q a =
 
 -- Later tests need be the same only where those before them are passed.
 pub first-same : (x y : Check) {c d : Check} → x ≡ y → (x ≡ Within → c ≡ d) → first x c ≡ first y d
-first-same x y {c} {d} e f = from x refl ∙ ap (λ (k : Check). first k d) e
-  where
-    from : (k : Check) → x ≡ k → first k c ≡ first k d
-    from Within g = f g
-    from (Refused w) g = refl
+first-same x y e f = told-same first (λ w c d. refl) x y _ _ e f
 
 pub moved-same :
     (k j : Check) (r q a b : Run) → k ≡ j → AlikeRuns r q → (k ≡ Within → AlikeRuns a b) → SameMoved (moved k r a) (moved j q b)

@@ -65,10 +65,12 @@ reports =
     record {
       p3-bytes = refl;
       p3 = yes-told (showOf X (replicate 3 clip)) [] (record { layouts = refl; sessions = refl }) (check-within _ refl) (omega arith) _ (table .p3 .twice) refl;
-      empty = yes-told (showOf X []) [] (record { layouts = refl; sessions = refl }) (check-within _ refl) (omega arith) _ (table .empty) refl;
+      empty =
+          yes-told (showOf X []) [] (record { layouts = refl; sessions = refl }) (check-within _ refl) (omega arith) _
+          (table .empty (showOf X []) (check-within _ refl) refl) refl;
       hundred =
           no-told (showOf Z (replicate 10 clip)) [] (record { layouts = refl; sessions = refl }) (check-within _ refl) (omega arith) _
-          (table .p6 .hundred (λ _. 200000000) (λ i h. omega arith)) NoSet refl;
+          (table .p6 .hundred (λ _. 200000000) (λ i h. omega arith) .answer) NoSet refl;
       numbers = decimal-numeral;
       read-back = read-back;
       most = text-most;

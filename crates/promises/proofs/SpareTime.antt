@@ -1,14 +1,16 @@
 -- Spare time to the microsecond, by citation. Assumes nothing.
 use Prim.Native.Nat.{ℕ, _-_, _≤_, _<_}
 use mathlib.Core.Path.{_≡_, refl, sym, ap, subst, _∙_}
+use mathlib.Core.Bool.{false}
 use mathlib.Core.Logic.{inl, inr}
 use native.Mathlib.Omega.{arith}
 use native.Mathlib.Nat.{le-of-lt}
 use native.Mathlib.Decide.{decLt, ℕ-discrete}
 use lib.IntN.{ℤ, pos}
 use lib.ListN.{length, getD}
-use lib.Signed.{_≤ℤ_}
+use lib.Signed.{_≤ℤ_, clashℤ}
 use Rattle.drive.specs.declared.refusal.Refusal.{Refusal}
+use Rattle.drive.specs.declared.refusal.Refusal.the-variants.{Damaged}
 use Rattle.drive.specs.declared.refusal.Check.{Check}
 use Rattle.drive.specs.declared.refusal.Check.the-variants.{Within, Refused}
 use Rattle.theory.specs.Floor.{Floors}
@@ -16,31 +18,36 @@ use Rattle.theory.specs.Spare.{less?, spareBy, slackBy, Before, rank}
 use Rattle.theory.proofs.Integers.{not-less, ≤ℤ-antisymm}
 use Rattle.theory.proofs.Floor.{floor-floors}
 use Rattle.theory.proofs.Spare.{attained, slack-least, rank-below, rank-rises, rank-first, rank-apart}
+use Rattle.run.specs.declared.Underway.the-variants.{Nothing}
 use Rattle.run.specs.declared.Run.{Run}
 use Rattle.run.specs.Run.{playing, clipAt, seatAt}
 use Rattle.run.specs.Sound.{SoundRun, NamesEach}
 use Rattle.run.specs.Decisions.{sound?}
 use Rattle.run.specs.Answers.{moved}
+use Rattle.run.specs.declared.Moved.{Moved}
 use Rattle.run.proofs.Answered.{moved-check}
 use Rattle.run.proofs.Orders.{names-below}
 use Rattle.spare.specs.declared.Spare.the-variants as spare
 use Rattle.spare.specs.declared.Spared.{Spared}
 use Rattle.spare.specs.Times.{aheadAt, timeAt, placeAt, startOrder, running}
-use Rattle.spare.specs.Answers.{workaheadOf, startCheck, startOf}
+use Rattle.spare.specs.Answers.{workaheadOf, slackOf, startCheck, startOf}
 use Rattle.spare.proofs.Aheads.{counting}
 use Rattle.spare.proofs.Orders.{named-at}
-use Rattle.spare.proofs.Calls.{workahead-damaged, start-names}
-use Rattle.spare.proofs.Laws.{workahead-told, slack-told, starts}
+use Rattle.spare.proofs.Calls.{workahead-damaged, slack-damaged, start-names, start-begins, begin-granted}
+use Rattle.spare.proofs.Laws.{workahead-told, slack-told, starts, start-granted}
 use Rattle.promises.specs.Runs.{Sized}
-use Rattle.promises.specs.SpareTime.{leadAt, LeastOf, SpareTime}
+use Rattle.promises.specs.SpareTime.{leadAt, LeastOf, AtFirst, SpareTime}
 
 -- ---- workahead
 
-timed-sound : (r : Run) (i : ℕ) (z : ℤ) → workaheadOf r i .spare ≡ spare.Time z → SoundRun r
-timed-sound r i z e =
+-- A time is told of a sound run alone.
+timed-sound :
+    (r : Run) (a : Spared) (z : ℤ) → ((SoundRun r → ⊥) → record { spare = spare.Refused Damaged; run = r } ≡ a) → a .spare ≡ spare.Time z →
+    SoundRun r
+timed-sound r a z damaged e =
     elim (sound? r) [
       | yes s ↦ s
-      | no n ↦ clash (ap (λ (a : Spared). a .spare) (workahead-damaged r i n) ∙ e)
+      | no n ↦ clash (ap (λ (b : Spared). b .spare) (damaged n) ∙ e)
     ]
   where
     clash : {X : Type 0} {w : Refusal} → spare.Refused w ≡ spare.Time z → X
@@ -50,7 +57,7 @@ floored : (r : Run) (i : ℕ) (z : ℤ) → workaheadOf r i .spare ≡ spare.Tim
 floored r i z e =
     let t = workahead-told r i z e in
     subst (Floors (leadAt r i) (clipAt r i .rate)) (sym (t .1))
-    (floor-floors (leadAt r i) (clipAt r i .rate) (counting r (timed-sound r i z e) i (t .0) .rate))
+    (floor-floors (leadAt r i) (clipAt r i .rate) (counting r (timed-sound r (workaheadOf r i) z (workahead-damaged r i) e) i (t .0) .rate))
 
 -- ---- slack
 
@@ -116,6 +123,19 @@ module _ (r : Run) (n : Sized r) (e : startOf r .check ≡ Within) where
       let b = seat-ranks r e n k m in
       rank-before (aheadAt r) (playing r) _ _ (a .0) (b .0) (let p = a .1 in let q = b .1 in omega arith))
 
+module _ (r : Run) (e : startOf r .check ≡ Within) where
+  start-first-session : AtFirst (startOf r .run)
+  unfolding running
+  start-first-session = rw (start-runs r e) (record { place = refl; left = refl; underway = starts r (checked r e) .free })
+
+start-within :
+    (r : Run) (z : ℤ) → slackOf r .spare ≡ spare.Time z → r .started ≡ false → r .underway ≡ Nothing → pos 0 ≤ℤ z → startOf r .check ≡ Within
+start-within r z e fresh free enough =
+    let t = slack-told r z e in
+    let s = timed-sound r (slackOf r) z (slack-damaged r) e in
+    ap (λ (m : Moved). m .check)
+    (sym (start-begins r s fresh free _ (t .0) (begin-granted r (running r) (λ l. clashℤ l (subst (λ (x : ℤ). pos 0 ≤ℤ x) (t .1) enough)) refl)))
+
 pub spare-time : SpareTime
 spare-time =
     record {
@@ -125,6 +145,9 @@ spare-time =
           subst (LeastOf (spareBy (placeAt r) (aheadAt r) (timeAt r) (playing r)) (playing r)) (sym (t .1))
           (slack-is (placeAt r) (aheadAt r) (timeAt r) (playing r) (t .0)));
       granted = λ r z e g. subst (λ (x : ℤ). pos 0 ≤ℤ x) (sym (slack-told r z e .1)) (not-less (starts r (checked r g) .enough));
+      grants = start-within;
       names = start-each;
       order = start-rises;
+      first = start-first-session;
+      kept = start-granted;
     }

@@ -1,4 +1,4 @@
--- Runs that differ in unused places alone are answered alike, and stay so. Assumes nothing.
+-- Shows and runs that differ in unused places alone are answered alike, and the runs stay so. Assumes nothing.
 use Prim.Native.Nat.{ℕ, zero, suc, _+_, _≤_, _<_}
 use mathlib.Core.Path.{_≡_, refl, sym, ap, ap₂, subst, _∙_}
 use mathlib.Core.Bool.{Bool}
@@ -16,10 +16,13 @@ use Rattle.drive.specs.declared.refusal.Check.the-variants.{Within, Refused}
 use Rattle.drive.specs.Checks.{unless, first}
 use Rattle.drive.specs.Limits.{Alike}
 use Rattle.drive.proofs.Checks.{unless-within, first-left, first-right}
+use Rattle.drive.proofs.Shows.{alike-check}
 use Rattle.cost.specs.declared.Cost.{Cost}
 use Rattle.cost.specs.Bound.{worstTime}
 use Rattle.cost.specs.Worst.{costOf}
-use Rattle.cost.proofs.Costs.{alike-cost}
+use Rattle.cost.proofs.Costs.{alike-cost, alike-worst}
+use Rattle.filing.proofs.Unused.{written-same, buffer-same}
+use Rattle.trips.proofs.Unused.{reread-same}
 use Rattle.theory.specs.Spare.{less?, rank, slack}
 use Rattle.theory.proofs.Spare.{slack-same, rank-same}
 use Rattle.verdict.specs.declared.Decision.{Decision}
@@ -372,6 +375,11 @@ opening-same s t o p a h g =
 pub unseen : Unseen
 unseen =
     record {
+      check = alike-check;
+      worst-time = λ s t i n a. alike-worst s t a i n;
+      writing = λ s t note room a. written-same s t a note room;
+      buffer = λ s t note b a. buffer-same s t a note b;
+      rereading = λ s t note room a. reread-same s t a note room;
       back = back;
       sound = still-sound;
       pass = λ r q d n m a. pass-same r q n m a d;

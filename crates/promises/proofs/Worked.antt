@@ -1,6 +1,7 @@
--- Worked runs: p8 to p10. Each is computed. Assumes nothing.
+-- Worked runs: p8 to p10, and a start with unequal counts. Each is computed. Assumes nothing.
 use mathlib.Core.Path.{refl, sym, ap}
 use mathlib.Core.Bool.{Bool, true, false}
+use mathlib.Core.List.{[], _∷_}
 use mathlib.Core.Logic.{Dec·and}
 use native.Mathlib.Decide.{decLe, decLt, ℕ-discrete}
 use native.Mathlib.Omega.{arith}
@@ -13,6 +14,7 @@ use Rattle.cost.specs.Worst.{costOf}
 use Rattle.theory.specs.Sum.{sumTo}
 use Rattle.theory.specs.Floor.{floorZ}
 use Rattle.theory.specs.Spare.{less?, leastTo, slackBy, same?, before?, rank}
+use Rattle.verdict.specs.Answers.{DecisionIs}
 use Rattle.run.specs.Sound.{SoundRun}
 use Rattle.run.specs.Decisions.{below?, some?, show?, good?, false?, true?, waiting?, state?, named?, nothing?, room?, put?, mayRead?, underway?, cycle?, sound?}
 use Rattle.run.specs.Steps.{changed, passed}
@@ -20,7 +22,7 @@ use Rattle.run.specs.declared.Moved.{Moved}
 use Rattle.playback.proofs.Calls.{pass-granted}
 use Rattle.spare.specs.Times.{named, running}
 use Rattle.spare.proofs.Calls.{workahead-time, slack-time, start-begins, begin-granted}
-use Rattle.promises.specs.Numbers.{eighth, clocked, P8, P9, P10}
+use Rattle.promises.specs.Numbers.{X, clip, faster, showOf, yes-with, eighth, uneven, clocked, P8, Uneven, P9, P10}
 
 -- ---- a test that computes
 
@@ -51,6 +53,27 @@ p8 =
       table = refl;
       start = ap (λ (m : Moved). m .check) (sym begins);
       order = ap (λ (m : Moved). m .run .order) (sym begins);
+    }
+
+-- ---- beside p8: unequal counts
+
+uneven-sound : SoundRun uneven
+unfolding told sound? show? good? below? state? named? some? cycle? false? true? waiting? nothing? room? put? mayRead? underway? counts? drive? layout? session? between? sumTo costOf worstTime edges ceil listed decLe decLt ℕ-discrete Dec·and
+uneven-sound = from-told (sound? uneven) tt
+
+pub uneven-starts : DecisionIs (showOf X (clip ∷ faster ∷ [])) (yes-with 94000 (1 ∷ 2 ∷ []) (42000 ∷ 52000 ∷ [])) → Uneven
+unfolding floorZ leastTo slackBy before? rank less? same? ℕ-discrete sumTo costOf worstTime edges ceil listed decLe decLt named running
+uneven-starts decided =
+    let begins = start-begins uneven uneven-sound refl refl _ (omega arith) (begin-granted uneven (running uneven) (λ n. absurd (n .lt)) refl) in
+    record {
+      counts = decided;
+      first = sym (workahead-time uneven 0 uneven-sound (pos 94000) (omega arith) refl);
+      second = sym (workahead-time uneven 1 uneven-sound (pos 52000) (omega arith) refl);
+      slack = sym (slack-time uneven uneven-sound (pos 0) (omega arith) refl);
+      start = ap (λ (m : Moved). m .check) (sym begins);
+      order = ap (λ (m : Moved). m .run .order) (sym begins);
+      place = ap (λ (m : Moved). m .run .place) (sym begins);
+      left = ap (λ (m : Moved). m .run .left) (sym begins);
     }
 
 -- ---- p9 and p10

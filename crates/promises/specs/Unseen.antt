@@ -1,8 +1,14 @@
--- Nothing looks at the unused places of a run: docs/RULES.md, sections 1 and 9. proofs/Unseen.antt proves it.
+-- Nothing looks at the unused places of a show, nor of a run: docs/RULES.md, sections 1 and 9. proofs/Unseen.antt proves it. That deciding a show,
+-- trying counts, the reason for a no and the load do not stands beside what they promise: specs/Verdict and specs/Reasons.
 use Prim.Native.Nat.{ℕ, _<_}
 use mathlib.Core.Path.{_≡_}
+use mathlib.Core.List.{List}
 use Rattle.drive.specs.declared.Show.{Show}
 use Rattle.drive.specs.Limits.{Alike}
+use Rattle.drive.specs.Checks.{showCheck}
+use Rattle.cost.specs.Worst.{worstOf}
+use Rattle.filing.specs.Answers.{writtenOf, bufferOf}
+use Rattle.trips.specs.Answers.{rereadOf}
 use Rattle.run.specs.declared.Run.{Run}
 use Rattle.run.specs.declared.Moved.{Moved}
 use Rattle.run.specs.declared.Opened.{Opened}
@@ -42,7 +48,13 @@ SameOpened a b = (a .check ≡ b .check) × AlikeRuns (a .run) (b .run)
 
 -- Places above a count are not looked at.
 pub record Unseen : Type 0 where
-  -- Alike is alike both ways, and a run is sound or damaged whatever stands in unused places.
+  -- Nothing looks at unused places of a show: tested, timed, written or read again, two that differ there alone give the same, byte for byte.
+  pub check : (s t : Show) → Alike s t → showCheck s ≡ showCheck t
+  pub worst-time : (s t : Show) (i n : ℕ) → Alike s t → worstOf s i n ≡ worstOf t i n
+  pub writing : (s t : Show) (note : List ℕ) (room : ℕ) → Alike s t → writtenOf s note room ≡ writtenOf t note room
+  pub buffer : (s t : Show) (note b : List ℕ) → Alike s t → bufferOf s note b ≡ bufferOf t note b
+  pub rereading : (s t : Show) (note : List ℕ) (room : ℕ) → Alike s t → rereadOf s note room ≡ rereadOf t note room
+  -- Runs that are alike are so both ways, and a run is sound or damaged whatever stands in unused places.
   pub back : (r q : Run) → AlikeRuns r q → AlikeRuns q r
   pub sound : (r q : Run) → AlikeRuns r q → SoundRun r → SoundRun q
   -- Every call gives the same answer, granted or refused, and leaves runs that again differ there alone.
