@@ -1,3 +1,2 @@
 pub mod Bound
-pub mod Decisions
-pub mod Worst
+pub mod Costs

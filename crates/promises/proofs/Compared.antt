@@ -12,7 +12,7 @@ use lib.Signed.{leZ-yes}
 use Rattle.drive.specs.Decisions.{between?, counts?, drive?, layout?, session?}
 use Rattle.drive.specs.Lists.{listed}
 use Rattle.cost.specs.Bound.{worstTime, edges, ceil}
-use Rattle.cost.specs.Worst.{costOf}
+use Rattle.cost.specs.Costs.{costOf}
 use Rattle.theory.specs.Sum.{sumTo}
 use Rattle.theory.specs.Floor.{floorZ}
 use Rattle.theory.specs.Spare.{less?, leastTo, slackBy, same?, before?, rank}

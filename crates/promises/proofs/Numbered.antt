@@ -34,8 +34,8 @@ use Rattle.drive.specs.declared.refusal.Check.the-variants as check
 use Rattle.drive.specs.Limits.{Between}
 use Rattle.drive.specs.Refusals.{numberOf, placeOf, toldOf}
 use Rattle.drive.specs.Outcomes.{Outcome, granted, checkOutcome}
-use Rattle.cost.specs.declared.Worst.the-variants as worst
-use Rattle.cost.specs.Worst.{worstOutcome}
+use Rattle.verdict.specs.declared.worst.Worst.the-variants as worst
+use Rattle.verdict.specs.WorstTimes.{worstOutcome}
 use Rattle.verdict.specs.declared.Verdict.the-variants as verdict
 use Rattle.verdict.specs.declared.Answer.the-variants as answer
 use Rattle.verdict.specs.Answers.{verdictOutcome, answerOutcome}

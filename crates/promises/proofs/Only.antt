@@ -16,7 +16,7 @@ use Rattle.drive.specs.declared.refusal.Check.the-variants.{Within, Refused}
 use Rattle.drive.specs.Decisions.{between?, counts?}
 use Rattle.drive.specs.Checks.{showCheck}
 use Rattle.drive.proofs.Checks.{within-refused}
-use Rattle.cost.specs.Worst.{worstOf}
+use Rattle.verdict.specs.WorstTimes.{worstOf}
 use Rattle.showfile.specs.declared.Written.{Written}
 use Rattle.showfile.specs.declared.trailer.Trailer.{Trailer}
 use Rattle.showfile.specs.File.{trailerOf, fileOf}

@@ -17,7 +17,8 @@ use Rattle.drive.proofs.Checks.{within-refused, first-within}
 use Rattle.drive.proofs.Rows.{row-within, row-kept, row-lowest}
 use Rattle.drive.proofs.Shows.{within-check}
 use Rattle.cost.specs.Bound.{worstTime}
-use Rattle.cost.specs.Worst.{costOf, worstOf}
+use Rattle.cost.specs.Costs.{costOf}
+use Rattle.verdict.specs.WorstTimes.{worstOf}
 use Rattle.theory.specs.Counts.{Accepted}
 use Rattle.theory.specs.Reasons.{tenths}
 use Rattle.theory.specs.Shows.{loadOf}

@@ -13,7 +13,7 @@ use Rattle.drive.specs.declared.refusal.Check.the-variants as check
 use Rattle.drive.specs.Limits.{ShowWithin, bufferMost}
 use Rattle.drive.specs.Checks.{showCheck}
 use Rattle.drive.proofs.Shows.{within-check}
-use Rattle.cost.specs.Worst.{costOf}
+use Rattle.cost.specs.Costs.{costOf}
 use Rattle.theory.specs.Counts.{needed, unit, Accepted, wholeLoad}
 use Rattle.theory.specs.Reasons.{NeverKeepsUp, Beyond, TooSmall, tenths}
 use Rattle.theory.specs.Shows.{loadOf}

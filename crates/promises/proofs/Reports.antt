@@ -15,7 +15,7 @@ use Rattle.drive.specs.Checks.{showCheck, firstBelow}
 use Rattle.drive.specs.Lists.{listed, padded}
 use Rattle.drive.proofs.Shows.{check-within}
 use Rattle.cost.specs.Bound.{worstTime, edges, ceil}
-use Rattle.cost.specs.Worst.{costOf}
+use Rattle.cost.specs.Costs.{costOf}
 use Rattle.showfile.specs.Bytes.{wordBytes, halfBytes, fourBytes, rowBytes}
 use Rattle.showfile.specs.File.{layoutBytes, sessionBytes, trailerBytes, trailerFor, fileOf, zeroed}
 use Rattle.showfile.specs.declared.Reading.{Reading}

@@ -17,7 +17,7 @@ use Rattle.drive.specs.Checks.{showCheck, firstBelow}
 use Rattle.drive.specs.Lists.{listed, padded}
 use Rattle.drive.proofs.Shows.{check-within}
 use Rattle.cost.specs.Bound.{worstTime, edges, ceil}
-use Rattle.cost.specs.Worst.{costOf}
+use Rattle.cost.specs.Costs.{costOf}
 use Rattle.showfile.specs.File.{fileOf, zeroed}
 use Rattle.showfile.specs.declared.Reading.{Reading}
 use Rattle.showfile.specs.Answers.{reading, readOf}

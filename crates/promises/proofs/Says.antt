@@ -17,8 +17,8 @@ use Rattle.drive.specs.Decisions.{counts?, drive?, layout?, session?}
 use Rattle.drive.specs.Refusals.{numberOf}
 use Rattle.drive.specs.Checks.{unless, first, firstBelow, limitsCheck, showCheck}
 use Rattle.drive.proofs.Checks.{within-refused}
-use Rattle.cost.specs.declared.Worst.the-variants as worst
-use Rattle.cost.specs.Worst.{answered}
+use Rattle.verdict.specs.declared.worst.Worst.the-variants as worst
+use Rattle.verdict.specs.WorstTimes.{answered}
 use Rattle.showfile.specs.Answers.{reading, written}
 use Rattle.reason.specs.declared.Loaded.the-variants as loaded
 use Rattle.reason.specs.Answers as loading

@@ -19,7 +19,8 @@ use Rattle.drive.specs.Lists.{listed, padded}
 use Rattle.drive.proofs.Lists.{listed-length, listed-at}
 use Rattle.drive.proofs.Shows.{check-within}
 use Rattle.cost.specs.Bound.{worstTime, edges, ceil}
-use Rattle.cost.specs.Worst.{costOf, worstOf}
+use Rattle.cost.specs.Costs.{costOf}
+use Rattle.verdict.specs.WorstTimes.{worstOf}
 use Rattle.theory.specs.Sum.{sumTo}
 use Rattle.theory.specs.Counts.{unit, roundTime, needed}
 use Rattle.theory.specs.Rounds.{need, asked, next, turns, NotPast}

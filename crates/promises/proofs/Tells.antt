@@ -13,7 +13,7 @@ use Rattle.drive.specs.declared.refusal.Check.{Check}
 use Rattle.drive.specs.declared.refusal.Check.the-variants.{Within, Refused}
 use Rattle.drive.specs.Outcomes.{Outcome, granted, refusedBy, checkOutcome}
 use Rattle.drive.specs.Checks.{unless, first}
-use Rattle.cost.specs.Worst.{answered, worstOutcome}
+use Rattle.verdict.specs.WorstTimes.{answered, worstOutcome}
 use Rattle.verdict.specs.declared.Verdict.{Verdict}
 use Rattle.verdict.specs.declared.Verdict.the-variants as verdict
 use Rattle.verdict.specs.Answers.{verdictOutcome}

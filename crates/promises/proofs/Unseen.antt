@@ -19,8 +19,9 @@ use Rattle.drive.proofs.Checks.{unless-within, first-left, first-right}
 use Rattle.drive.proofs.Shows.{alike-check}
 use Rattle.cost.specs.declared.Cost.{Cost}
 use Rattle.cost.specs.Bound.{worstTime}
-use Rattle.cost.specs.Worst.{costOf}
-use Rattle.cost.proofs.Costs.{alike-cost, alike-worst}
+use Rattle.cost.specs.Costs.{costOf}
+use Rattle.cost.proofs.Costs.{alike-cost}
+use Rattle.verdict.proofs.WorstTimes.{alike-worst}
 use Rattle.filing.proofs.Unused.{written-same, buffer-same}
 use Rattle.trips.proofs.Unused.{reread-same}
 use Rattle.theory.specs.Spare.{less?, rank, slack}

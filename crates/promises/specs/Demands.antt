@@ -75,13 +75,13 @@ pub record Second : Type 0 where
 pub record Third : Type 0 where
   -- Make an accepted show lighter and nothing gets worse: accepted again, no count, time, round or load larger, ..
   pub lighter : Lighter
-  -- .. and where no session is behind its cushion, no workahead and not the slack smaller.
+  -- .. and where each session plays at the rate that it had or is not behind its cushion, no workahead and not the slack smaller.
   pub spare : Spare
 
 -- Two results that satisfy one statement are equal, for every public call.
 pub record Once : Type 1 where
   -- The statement is an equation, of what is answered and of every byte or state that is lent: `Show::nothing`, `Show::check`,
-  -- `Refusal::told`, `Cost::time`, `costs_of`, `worst_time`, `load`, `read`, `note`, `write`, `reread`, `copy`, `Run::with_cycle`, `test_run`,
+  -- `Refusal::told`, `Cost::of_read`, `worst_time`, `load`, `read`, `note`, `write`, `reread`, `copy`, `Run::with_cycle`, `test_run`,
   -- `pass`, `take`, `finish`, `choose`, `workahead`, `slack`, `start`, the player's `take_from`, `take` and `take_lent`; and, of texts, `find`,
   -- `parts`, `part`, `decimal`, `unhex`, `put_word`, `put_numbered`.
   pub equation : {A : Type 0} (meaning x y : A) → x ≡ meaning → y ≡ meaning → x ≡ y

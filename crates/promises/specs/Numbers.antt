@@ -14,8 +14,8 @@ use Rattle.drive.specs.declared.refusal.Refusal.the-variants.{NoSet}
 use Rattle.drive.specs.declared.refusal.Check.the-variants.{Within}
 use Rattle.drive.specs.Limits.{Between, ShowWithin, bufferMost, noLayout, noSession}
 use Rattle.drive.specs.Lists.{listed}
-use Rattle.cost.specs.declared.Worst.the-variants.{Takes}
-use Rattle.cost.specs.Worst.{worstOf}
+use Rattle.verdict.specs.declared.worst.Worst.the-variants.{Takes}
+use Rattle.verdict.specs.WorstTimes.{worstOf}
 use Rattle.theory.specs.Spare.{slackBy}
 use Rattle.theory.specs.Counts.{unit, roundTime}
 use Rattle.theory.specs.Shows.{loadOf}

@@ -13,7 +13,7 @@ use Rattle.drive.specs.Limits.{Between, CountsWithin, DriveWithin, LaidWithin, 
 use Rattle.drive.specs.Faults.{Lowest}
 use Rattle.drive.specs.Outcomes.{Outcome, granted, checkOutcome}
 use Rattle.drive.specs.Checks.{showCheck}
-use Rattle.cost.specs.Worst.{worstOf, worstOutcome}
+use Rattle.verdict.specs.WorstTimes.{worstOf, worstOutcome}
 use Rattle.theory.specs.Counts.{Accepted}
 use Rattle.theory.specs.Shows.{loadOf}
 use Rattle.verdict.specs.declared.Decision.{Decision}

@@ -13,8 +13,8 @@ use Rattle.drive.specs.Limits.{Between, noShow}
 use Rattle.drive.specs.Refusals.{numberOf, placeOf, toldOf}
 use Rattle.drive.specs.Checks.{showCheck}
 use Rattle.drive.specs.Outcomes.{Outcome, checkOutcome}
-use Rattle.cost.specs.declared.Worst.the-variants as worst
-use Rattle.cost.specs.Worst.{worstOf, worstOutcome}
+use Rattle.verdict.specs.declared.worst.Worst.the-variants as worst
+use Rattle.verdict.specs.WorstTimes.{worstOf, worstOutcome}
 use Rattle.showfile.specs.declared.Written.{Written}
 use Rattle.showfile.specs.Answers.{readOf, noteOf}
 use Rattle.filing.specs.Answers.{writtenOf, bufferOf}

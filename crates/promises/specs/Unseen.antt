@@ -6,7 +6,7 @@ use mathlib.Core.List.{List}
 use Rattle.drive.specs.declared.Show.{Show}
 use Rattle.drive.specs.Limits.{Alike}
 use Rattle.drive.specs.Checks.{showCheck}
-use Rattle.cost.specs.Worst.{worstOf}
+use Rattle.verdict.specs.WorstTimes.{worstOf}
 use Rattle.filing.specs.Answers.{writtenOf, bufferOf}
 use Rattle.trips.specs.Answers.{rereadOf}
 use Rattle.run.specs.declared.Run.{Run}

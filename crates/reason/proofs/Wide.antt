@@ -9,7 +9,7 @@ use Rattle.drive.specs.declared.Show.{Show}
 use Rattle.drive.specs.Limits.{ShowWithin, SessionWithin, sessionAt, noSession, bufferMost}
 use Rattle.drive.specs.Lists.{listed, padded}
 use Rattle.drive.proofs.Lists.{filled-more, filled-at}
-use Rattle.cost.specs.Worst.{costOf}
+use Rattle.cost.specs.Costs.{costOf}
 use Rattle.theory.specs.Counts.{Accepted, Smallest}
 use Rattle.theory.specs.Lighter.{Lighter}
 use Rattle.theory.specs.Reasons.{widened}

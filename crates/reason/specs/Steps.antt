@@ -5,7 +5,7 @@ use Rattle.drive.specs.declared.Show.{Show}
 use Rattle.drive.specs.Limits.{sessionAt, noSession, rateMost, bufferMost}
 use Rattle.drive.specs.Lists.{listed, padded}
 use Rattle.cost.specs.Bound.{eachMost, crossMost}
-use Rattle.cost.specs.Worst.{costOf}
+use Rattle.cost.specs.Costs.{costOf}
 use Rattle.theory.specs.Sum.{sumTo}
 use Rattle.theory.specs.Counts.{Load, unit, wholeLoad}
 use Rattle.reason.specs.declared.work.Sums.{Sums}

@@ -11,7 +11,7 @@ use Rattle.drive.specs.declared.Show.{Show}
 use Rattle.drive.specs.declared.refusal.Refusal.the-variants.{NoSet}
 use Rattle.drive.specs.Limits.{ShowWithin, bufferMost}
 use Rattle.cost.specs.Bound.{countMost, worstMost}
-use Rattle.cost.specs.Worst.{costOf}
+use Rattle.cost.specs.Costs.{costOf}
 use Rattle.cost.proofs.Bound.{worst-capped}
 use Rattle.cost.proofs.Costs.{cost-limited}
 use Rattle.showfile.proofs.Readable.{read-within}

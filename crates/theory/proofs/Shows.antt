@@ -14,7 +14,7 @@ use Rattle.drive.specs.declared.Session.{Session}
 use Rattle.drive.specs.declared.Show.{Show}
 use Rattle.drive.specs.Limits.{ShowWithin, Alike, layoutAt, sessionAt, noSession}
 use Rattle.cost.specs.Bound.{Cheaper, worstTime, countMost}
-use Rattle.cost.specs.Worst.{costOf}
+use Rattle.cost.specs.Costs.{costOf}
 use Rattle.cost.proofs.Bound.{worst-cheaper}
 use Rattle.cost.proofs.Costs.{session-laws, read-cheaper}
 use Rattle.theory.specs.Counts.{Sound, Feasible, Good, Smallest, wholeLoad}

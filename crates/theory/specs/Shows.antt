@@ -9,7 +9,7 @@ use Rattle.drive.specs.declared.Layout.{Layout}
 use Rattle.drive.specs.declared.Show.{Show}
 use Rattle.drive.specs.Limits.{layoutAt, sessionAt, noSession}
 use Rattle.cost.specs.Bound.{worstTime, weight, spareOf}
-use Rattle.cost.specs.Worst.{costOf}
+use Rattle.cost.specs.Costs.{costOf}
 use Rattle.theory.specs.Counts.{Stream, Load}
 
 -- A session, and a show, as the verdict sees them.

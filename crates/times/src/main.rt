@@ -1,11 +1,11 @@
 // Prints the worst time for a table of drives, layouts and counts, then the answers to shows at and just past each limit.
-use cost::Worst;
-use cost::worst_time;
 use drive::Drive;
 use drive::Layout;
 use drive::Session;
 use drive::Show;
 use libc::STDOUT_FILENO;
+use verdict::worst::Worst;
+use verdict::worst::worst_time;
 
 fn main() {
     table(1);

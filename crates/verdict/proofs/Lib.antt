@@ -1,3 +1,4 @@
+pub mod WorstTimes
 pub mod Spans
 pub mod Sets
 pub mod Ends

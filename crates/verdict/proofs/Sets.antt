@@ -12,7 +12,7 @@ use Rattle.drive.specs.Lists.{listed, padded}
 use Rattle.drive.proofs.Lists.{filled-more, filled-at, listed-same}
 use Rattle.cost.specs.Bound.{worstTime}
 use Rattle.cost.specs.declared.Cost.{Cost}
-use Rattle.cost.specs.Worst.{readCost}
+use Rattle.cost.specs.Costs.{readCost}
 use Rattle.cost.proofs.Costs.{cost-read}
 use Rattle.theory.specs.Sum.{sumTo}
 use Rattle.theory.specs.Counts.{Load, unit, roundTime, Good, Smallest}

@@ -10,7 +10,7 @@ use Rattle.drive.proofs.Lists.{listed-same}
 use Rattle.drive.proofs.Shows.{check-within, within-check, alike-check}
 use Rattle.cost.specs.declared.Cost.{Cost}
 use Rattle.cost.specs.Bound.{worstTime}
-use Rattle.cost.specs.Worst.{costOf}
+use Rattle.cost.specs.Costs.{costOf}
 use Rattle.cost.proofs.Costs.{alike-cost}
 use Rattle.theory.specs.Sum.{sumTo}
 use Rattle.theory.specs.Counts.{roundTime}

@@ -8,7 +8,7 @@ use lib.ListN.{getD}
 use Rattle.drive.specs.declared.Show.{Show}
 use Rattle.drive.specs.Limits.{ShowWithin, blockMost, layoutAt, sessionAt}
 use Rattle.cost.specs.Bound.{worstTime, countMost, worstMost}
-use Rattle.cost.specs.Worst.{readCost}
+use Rattle.cost.specs.Costs.{readCost}
 use Rattle.cost.proofs.Bound.{worst-capped}
 use Rattle.cost.proofs.Costs.{cost-limited}
 use Rattle.theory.specs.Counts.{unit}

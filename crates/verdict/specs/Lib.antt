@@ -1,2 +1,3 @@
+pub mod WorstTimes
 pub mod Answers
 pub mod Steps

@@ -1,6 +1,7 @@
 // Yes or no: whether a show is accepted, with the smallest set of counts, and whether given counts are such a set.
 pub mod given;
 pub mod round;
+pub mod worst;
 
 ghost use mathlib.Core.Path.{_≡_};
 ghost use Rattle.drive.specs.Limits.{ShowWithin};
@@ -13,7 +14,7 @@ use crate::round::Turn;
 use crate::round::need;
 use crate::round::settle;
 use crate::round::split;
-use crate::round::takes;
+use crate::worst::takes;
 use drive::Show;
 use drive::refusal::Check;
 use drive::refusal::Refusal;

@@ -1,15 +1,11 @@
 // The least round time that sustains itself, and the counts that it asks for: docs/RULES.md, section 7.
 ghost use mathlib.Core.Path.{_≡_};
 ghost use Prim.Native.Nat.{_*_, _≤_};
-ghost use Rattle.drive.specs.Limits.{Tells, LayoutWithin, ShowWithin, blockLeast, rateMost, bufferMost};
-ghost use Rattle.cost.specs.Bound.{worstTime};
-ghost use Rattle.cost.specs.Worst.{readCost};
+ghost use Rattle.drive.specs.Limits.{Tells, ShowWithin, blockLeast, rateMost, bufferMost};
 ghost use Rattle.theory.specs.Shows.{loadOf};
 ghost use Rattle.verdict.specs.Answers.{row};
-ghost use Rattle.verdict.specs.Steps.{spanOf, Short, askedOf, Room, Lasting, SoonerIs, EndIs, ratesOf, SettledAs, timeMost};
-use cost::Cost;
-use cost::Time;
-use drive::Layout;
+ghost use Rattle.verdict.specs.Steps.{spanOf, Short, askedOf, Room, Lasting, SoonerIs, EndIs, ratesOf, SettledAs};
+use crate::worst::takes;
 use drive::Session;
 use drive::Show;
 
@@ -66,18 +62,6 @@ pub(crate) fn fits(block: u32, session: Session, count: u64) -> bool
         return false;
     }
     true
-}
-
-// U(n) of reads on a layout within its limits.
-pub(crate) fn takes(layout: Layout, cylinder: u32, n: u32) -> u64
-    requires { ⌜ LayoutWithin layout ⌝ }
-    ensures { λ r. ⌜ (r ≡ worstTime cylinder (readCost layout) n) × (r ≤ timeMost) ⌝ }
-{
-    let cost = Cost::of_read(layout);
-    let Time::Takes(time) = cost.time(cylinder, n) else {
-        return 0;
-    };
-    time
 }
 
 // Past every round of counts that fit.

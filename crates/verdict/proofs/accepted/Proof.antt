@@ -47,7 +47,9 @@ cast-takes : tie.Need-cast-takes Inv-loop μ-loop
 cast-takes c = let e = c .before .need .ensures in let f = asked-few _ (c .before .before .before .before .before .before .before .before .pre .0) _ _ _ (c .before .before .before .before .before .before .split .ensures) (c .before .before .before .before .loop-test .taken) (c .before .before .before .before .before .before .before .before .pre .1 .fits) in omega (arith, e, f)
 
 takes-requires : tie.Need-takes-requires Inv-loop μ-loop
-takes-requires c κs = layout-within _ (c .before .before .before .before .before .before .before .before .pre .0) _ (c .before .before .before .before .loop-test .taken)
+takes-requires c κs =
+    let w = c .before .before .before .before .before .before .before .before .pre .0 in
+    (layout-within _ w _ (c .before .before .before .before .loop-test .taken), w .drive .cylinder .low)
 
 cast-counts : tie.Need-cast-counts Inv-loop μ-loop
 cast-counts c = let e = c .before .before .need .ensures in let f = asked-few _ (c .before .before .before .before .before .before .before .before .before .pre .0) _ _ _ (c .before .before .before .before .before .before .before .split .ensures) (c .before .before .before .before .before .loop-test .taken) (c .before .before .before .before .before .before .before .before .before .pre .1 .fits) in omega (arith, e, f)

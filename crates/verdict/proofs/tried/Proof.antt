@@ -70,7 +70,9 @@ array-read-takes : tie.Need-array-read-takes Inv-loop μ-loop Inv-loop2 μ-loop2
 array-read-takes c = let h = within (c .before .before .before .before .before .before) .counts .sessions in let l = c .before .before .before .loop-test .taken in omega arith
 
 takes-requires : tie.Need-takes-requires Inv-loop μ-loop Inv-loop2 μ-loop2
-takes-requires c κs = layout-within _ (within (c .before .before .before .before .before .before)) _ (c .before .before .before .loop-test .taken)
+takes-requires c κs =
+    let w = within (c .before .before .before .before .before .before) in
+    (layout-within _ w _ (c .before .before .before .loop-test .taken), w .drive .cylinder .low)
 
 mul-times : tie.Need-mul-times Inv-loop μ-loop Inv-loop2 μ-loop2
 mul-times c = let h = within (c .before .before .before .before .before .before .before) .counts .sessions in let l = c .before .before .before .before .loop-test .taken in omega arith

@@ -109,7 +109,9 @@ cast-takes : tie.Need-cast-takes Inv-loop2 μ-loop2 Inv-loop μ-loop
 cast-takes c = omega (arith, count-few _ (within (c .before .before .before .before)) _ _ _ (rate (c .before .before .before .before)) (c .before .before .before .before .loop2-test .taken) (fits (c .before .before .before .before)))
 
 takes-requires : tie.Need-takes-requires Inv-loop2 μ-loop2 Inv-loop μ-loop
-takes-requires c κs = layout-within _ (within (c .before .before .before .before)) _ (c .before .before .before .before .loop2-test .taken)
+takes-requires c κs =
+    let w = within (c .before .before .before .before) in
+    (layout-within _ w _ (c .before .before .before .before .loop2-test .taken), w .drive .cylinder .low)
 
 time :
     (c : tie.After-takes Inv-loop2 μ-loop2 Inv-loop μ-loop) →

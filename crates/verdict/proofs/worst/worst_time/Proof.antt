@@ -3,16 +3,16 @@ use mathlib.Core.Path.{_≡_, sym, ap, _∙_}
 use native.Mathlib.Omega.{arith}
 use borrow.Author.Needs.{needs}
 use Rattle.drive.specs.declared.Show.{Show}
-use Rattle.cost.specs.declared.Cost.{Cost}
-use Rattle.cost.specs.declared.Worst.the-variants.{Takes}
 use Rattle.drive.specs.declared.refusal.Check.the-variants.{Within}
 use Rattle.drive.specs.Checks.{showCheck}
 use Rattle.drive.specs.Limits.{ShowWithin}
-use Rattle.cost.specs.Bound.{worstTime}
 use Rattle.drive.proofs.Shows.{check-within}
-use Rattle.cost.proofs.Costs.{laid-below, layout-within, read-limited, cost-read, worst-refused, worst-nobody, worst-takes}
-use Rattle.cost.proofs.worst_time.Statement.{statement}
-use Rattle.cost.proofs.worst_time.Tie as tie
+use Rattle.cost.proofs.Costs.{laid-below, layout-within}
+use Rattle.verdict.specs.declared.worst.Worst.the-variants.{Takes}
+use Rattle.verdict.proofs.Sets.{time-same}
+use Rattle.verdict.proofs.WorstTimes.{worst-refused, worst-nobody, worst-takes}
+use Rattle.verdict.proofs.worst.worst_time.Statement.{statement}
+use Rattle.verdict.proofs.worst.worst_time.Tie as tie
 
 abbrev show : tie.After-enum-told → Show
 show c = c .before .before .before .args .t1
@@ -47,27 +47,23 @@ element-copy-out-session c = let h = within (c .before) .counts .sessions in let
 cast-at : tie.Need-cast-at
 cast-at c = search needs
 
-mul-of-read : tie.Need-mul-of-read
-mul-of-read c = search needs
+mul-takes : tie.Need-mul-takes
+mul-takes c = search needs
 
-element-copy-out-of-read : tie.Need-element-copy-out-of-read
-element-copy-out-of-read c = let h = laid-below _ (within (c .before .before .before)) _ (c .before .before .if1 .left) in omega arith
+element-copy-out-takes : tie.Need-element-copy-out-takes
+element-copy-out-takes c = let h = laid-below _ (within (c .before .before .before)) _ (c .before .before .if1 .left) in omega arith
 
-of-read-requires : tie.Need-of-read-requires
-of-read-requires c κs = search needs
-
-bound-requires : tie.Need-bound-requires
-bound-requires c κs =
-    let d = c .before .before .before .before in
-    rw (c .of-read .ensures) (read-limited _ (layout-within _ (within (d .before)) _ (d .if1 .left)))
+takes-requires : tie.Need-takes-requires
+takes-requires c κs =
+    let d = c .before .before .before in
+    let w = within (d .before) in
+    (layout-within _ w _ (d .if1 .left), w .drive .cylinder .low)
 
 returns-3 : tie.Need-returns-3
 returns-3 c =
-    let d = c .before .before .before .before .before in
+    let d = c .before .before .before .before in
     let a = d .before .before .before .before .args in
-    let cost = c .before .of-read .ensures ∙ cost-read (a .t1) (a .i) in
-    ap Takes (c .bound .ensures ∙ ap (λ (x : Cost). worstTime (a .t1 .drive .cylinder) x (a .n)) cost)
-    ∙ sym (worst-takes _ _ _ (passed (d .before)) (d .if1 .left))
+    ap Takes (c .takes .ensures .0 ∙ time-same (a .t1) (a .i) (a .n)) ∙ sym (worst-takes _ _ _ (passed (d .before)) (d .if1 .left))
 
 pub worst-time-spec : {M : Type 1} → statement M
 worst-time-spec =
@@ -81,8 +77,7 @@ worst-time-spec =
     mul-session
     element-copy-out-session
     cast-at
-    mul-of-read
-    element-copy-out-of-read
-    of-read-requires
-    bound-requires
+    mul-takes
+    element-copy-out-takes
+    takes-requires
     returns-3)

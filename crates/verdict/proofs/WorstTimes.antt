@@ -1,0 +1,54 @@
+-- What `worst_time` answers, and that it looks at no unused place. Assumes nothing.
+use Prim.Native.Nat.{ℕ, _≤_, _<_}
+use mathlib.Core.Path.{_≡_, refl, sym, ap, _∙_}
+use native.Mathlib.Omega.{arith}
+use native.Mathlib.Decide.{decLt}
+use Rattle.drive.specs.declared.Drive.{Drive}
+use Rattle.drive.specs.declared.Show.{Show}
+use Rattle.drive.specs.declared.refusal.Refusal.{Refusal}
+use Rattle.drive.specs.declared.refusal.Refusal.the-variants.{NoSession}
+use Rattle.drive.specs.declared.refusal.Check.{Check}
+use Rattle.drive.specs.declared.refusal.Check.the-variants.{Within, Refused}
+use Rattle.drive.specs.Limits.{Alike}
+use Rattle.drive.specs.Checks.{unless, showCheck}
+use Rattle.drive.proofs.Checks.{unless-kept, unless-broken}
+use Rattle.drive.proofs.Shows.{check-within, alike-check}
+use Rattle.cost.specs.declared.Cost.{Cost}
+use Rattle.cost.specs.Bound.{worstTime}
+use Rattle.cost.specs.Costs.{costOf}
+use Rattle.cost.proofs.Costs.{alike-cost}
+use Rattle.verdict.specs.declared.worst.Worst.the-variants as worst
+use Rattle.verdict.specs.WorstTimes.{worstOf}
+
+-- The answer case by case.
+module _ (s : Show) (i n : ℕ) where
+  pub worst-refused : {w : Refusal} → showCheck s ≡ Refused w → worstOf s i n ≡ worst.Refused w
+  unfolding worstOf
+  worst-refused e = rw e
+
+  pub worst-nobody : showCheck s ≡ Within → s .playing ≤ i → worstOf s i n ≡ worst.Refused NoSession
+  unfolding worstOf
+  worst-nobody e l =
+      let no-one : unless (decLt i (s .playing)) NoSession ≡ Refused NoSession = unless-broken (decLt i (s .playing)) NoSession (λ (h : i < s .playing). omega arith) in
+      rw (e, no-one)
+
+  pub worst-takes : showCheck s ≡ Within → i < s .playing → worstOf s i n ≡ worst.Takes (worstTime (s .drive .cylinder) (costOf s i) n)
+  unfolding worstOf
+  worst-takes e l = rw (e, unless-kept (decLt i (s .playing)) NoSession l)
+
+-- Shows that agree below their counts have the same answer for every session and count.
+pub alike-worst : (s t : Show) → Alike s t → (i n : ℕ) → worstOf s i n ≡ worstOf t i n
+alike-worst s t a i n = from (showCheck s) refl (decLt i (s .playing))
+  where
+    check : {v : Check} → showCheck s ≡ v → showCheck t ≡ v
+    check e = sym (alike-check s t a) ∙ e
+
+    from : (v : Check) → showCheck s ≡ v → Dec (i < s .playing) → worstOf s i n ≡ worstOf t i n
+    from (Refused w) e d = worst-refused s i n e ∙ sym (worst-refused t i n (check e))
+    from Within e (no h) =
+        worst-nobody s i n e (omega arith) ∙ sym (worst-nobody t i n (check e) (let p = a .playing in omega arith))
+    from Within e (yes l) =
+        worst-takes s i n e l
+        ∙ ap (λ (c : Cost). worst.Takes (worstTime (s .drive .cylinder) c n)) (alike-cost s t a (check-within s e) i l)
+        ∙ ap (λ (d : Drive). worst.Takes (worstTime (d .cylinder) (costOf t i) n)) (a .drive)
+        ∙ sym (worst-takes t i n (check e) (rw (a .playing) at l))
