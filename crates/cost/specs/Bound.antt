@@ -22,8 +22,8 @@ weight N c = N * c .each + c .cross
 abbrev pub spareOf : ℕ → Cost → ℕ
 spareOf N c = N * c .fixed + (N - 1) * c .cross
 
--- What is known of U outside this crate, with B5 and B6 below: B1 to B4, of a bound u that weighs w, on a drive with N blocks per
--- cylinder.
+-- What is known of U elsewhere, but for the one function that works it out, with B5 and B6 below: B1 to B4, of a bound u that weighs w,
+-- on a drive with N blocks per cylinder.
 pub record BoundLaws (N w spare : ℕ) (u : ℕ → ℕ) : Type 0 where
   -- B1: an operation takes time
   pub some : (n : ℕ) → 1 ≤ n → 1 ≤ u n

@@ -38,7 +38,7 @@ add-result : tie.Need-add-result
 add-result c =
     let d = c .before .before .before .before in
     let p = parts d .blocks in
-    let f = limited d .fixed in
+    let l = limited d in
     omega arith
 
 add-result-2 : tie.Need-add-result-2
@@ -46,7 +46,7 @@ add-result-2 c =
     let d = c .before .before .before .before in
     let p = parts d .blocks in
     let q = parts d .crossed in
-    let f = limited d .fixed in
+    let l = limited d in
     rw (c .before .before .edges .ensures) (omega arith)
 
 returns : tie.Need-returns
