@@ -19,7 +19,7 @@ use Rattle.drive.proofs.Faults.{check-fault}
 use Rattle.drive.proofs.Shows.{limits-left}
 use Rattle.showfile.specs.declared.trailer.Trailer.{Trailer}
 use Rattle.showfile.specs.File.{trailerOf, showFrom}
-use Rattle.showfile.specs.Checks.{noteLength, distanced?, trailerCheck}
+use Rattle.showfile.specs.Checks.{fileLeast, fileMost, noteMost, noteLength, distanced?, trailerCheck}
 use Rattle.showfile.specs.Answers.{reading, readCheck, readAt, readOf, shownAt}
 use Rattle.showfile.proofs.Passed.{check-framed}
 
@@ -54,12 +54,12 @@ unfolding trailerCheck
 trailer-small at t e =
     first-small _ _ (unless-small (counts? (t .laid) (t .playing)) refusal.Counts (omega arith))
     (λ _. first-small _ _ (unless-small (distanced? at t) refusal.Distances (omega arith))
-    (λ _. unless-small (decLe (noteLength at t) 1024) refusal.NoteLength (omega arith))) e
+    (λ _. unless-small (decLe (noteLength at t) noteMost) refusal.NoteLength (omega arith))) e
 
 checked-small : (f : List ℕ) (at : ℕ) (t : Trailer) {w : Refusal} → readCheck f at t ≡ Refused w → Small w
 unfolding readCheck showFrom
 checked-small f at t e =
-    first-small _ _ (unless-small (between? 20 (length f) 1428) refusal.FileLength (omega arith))
+    first-small _ _ (unless-small (between? fileLeast (length f) fileMost) refusal.FileLength (omega arith))
     (λ _. first-small _ _ (trailer-small at t)
     (λ h k. show-small (shownAt f at t) (limits-left (shownAt f at t) (check-framed at t h .counts) ∙ k))) e
 

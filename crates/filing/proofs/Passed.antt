@@ -12,14 +12,14 @@ use Rattle.drive.specs.Decisions.{counts?}
 use Rattle.drive.specs.Checks.{first, countsCheck, limitsCheck}
 use Rattle.drive.proofs.Checks.{unless-kept, unless-within, first-within, first-left, first-right}
 use Rattle.showfile.specs.File.{fileOf}
-use Rattle.showfile.specs.Checks.{noteCheck}
+use Rattle.showfile.specs.Checks.{noteMost, noteCheck}
 use Rattle.showfile.proofs.Passed.{limits-within, within-limits}
 use Rattle.filing.specs.Answers.{roomCheck, writeCheck}
 
 -- a show and a note past 2, 4, 5, 6, 7 and 16
 pub record Writable (x : Show) (note : List ℕ) (room : ℕ) : Type 0 where
   pub within : ShowWithin x
-  pub short : length note ≤ 1024
+  pub short : length note ≤ noteMost
   pub fits : length (fileOf x note) ≤ room
 
 pub check-writable : (x : Show) (note : List ℕ) (room : ℕ) → writeCheck x note room ≡ Within → Writable x note room
@@ -34,16 +34,16 @@ check-writable x note room e =
     let counts = unless-within (counts? (x .laid) (x .playing)) Counts (first-left c (first n (first m r)) e) in
     record {
       within = limits-within x counts (first-left m r past-note);
-      short = unless-within (decLe (length note) 1024) NoteLength (first-left n (first m r) past-counts);
+      short = unless-within (decLe (length note) noteMost) NoteLength (first-left n (first m r) past-counts);
       fits = unless-within (decLe (length (fileOf x note)) room) BufferShort (first-right m r past-note);
     }
 
 -- a show and a note past all but 16
 pub room-left :
-    (x : Show) (note : List ℕ) (room : ℕ) → ShowWithin x → length note ≤ 1024 →
+    (x : Show) (note : List ℕ) (room : ℕ) → ShowWithin x → length note ≤ noteMost →
     writeCheck x note room ≡ roomCheck (length (fileOf x note)) room
 unfolding writeCheck
 room-left x note room w h =
     first-within _ _ (unless-kept (counts? (x .laid) (x .playing)) Counts (w .counts))
-    ∙ first-within _ _ (unless-kept (decLe (length note) 1024) NoteLength h)
+    ∙ first-within _ _ (unless-kept (decLe (length note) noteMost) NoteLength h)
     ∙ first-within _ _ (within-limits x w)

@@ -15,6 +15,7 @@ use Rattle.drive.specs.Checks.{showCheck}
 use Rattle.drive.proofs.Checks.{unless-kept, unless-broken, first-refused, first-within}
 use Rattle.drive.proofs.Shows.{limits-left}
 use Rattle.showfile.specs.File.{fileOf}
+use Rattle.showfile.specs.Checks.{noteMost}
 use Rattle.filing.specs.Answers.{writeCheck}
 use Rattle.filing.proofs.Passed.{room-left}
 
@@ -23,22 +24,22 @@ module _ (x : Show) (note : List ℕ) (room : ℕ) where
   unfolding writeCheck
   write-counts h = sym (first-refused _ _ (unless-broken (counts? (x .laid) (x .playing)) Counts h))
 
-  pub write-note : CountsWithin (x .laid) (x .playing) → (length note ≤ 1024 → ⊥) → Refused NoteLength ≡ writeCheck x note room
+  pub write-note : CountsWithin (x .laid) (x .playing) → (length note ≤ noteMost → ⊥) → Refused NoteLength ≡ writeCheck x note room
   unfolding writeCheck
   write-note c h =
       sym (first-within _ _ (unless-kept (counts? (x .laid) (x .playing)) Counts c)
-      ∙ first-refused _ _ (unless-broken (decLe (length note) 1024) NoteLength h))
+      ∙ first-refused _ _ (unless-broken (decLe (length note) noteMost) NoteLength h))
 
   pub write-limits :
-      CountsWithin (x .laid) (x .playing) → length note ≤ 1024 → {w : Refusal} → showCheck x ≡ Refused w →
+      CountsWithin (x .laid) (x .playing) → length note ≤ noteMost → {w : Refusal} → showCheck x ≡ Refused w →
       Refused w ≡ writeCheck x note room
   unfolding writeCheck
   write-limits c h e =
       sym (first-within _ _ (unless-kept (counts? (x .laid) (x .playing)) Counts c)
-      ∙ first-within _ _ (unless-kept (decLe (length note) 1024) NoteLength h)
+      ∙ first-within _ _ (unless-kept (decLe (length note) noteMost) NoteLength h)
       ∙ first-refused _ _ (sym (limits-left x c) ∙ e))
 
-  module _ (within : ShowWithin x) (short : length note ≤ 1024) where
+  module _ (within : ShowWithin x) (short : length note ≤ noteMost) where
     pub write-short : room < length (fileOf x note) → Refused BufferShort ≡ writeCheck x note room
     write-short h =
         sym (room-left x note room within short

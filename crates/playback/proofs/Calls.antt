@@ -14,7 +14,7 @@ use Rattle.run.specs.declared.State.{State}
 use Rattle.run.specs.declared.Underway.{Underway}
 use Rattle.run.specs.declared.Underway.the-variants as underway
 use Rattle.run.specs.declared.Run.{Run}
-use Rattle.run.specs.Run.{playing, stateAt, clipAt, wholeAt, PutAt, withStates, withCycle}
+use Rattle.run.specs.Run.{spanMost, playing, stateAt, clipAt, wholeAt, PutAt, withStates, withCycle}
 use Rattle.run.specs.Seats.{Seated}
 use Rattle.run.specs.Sound.{SoundRun}
 use Rattle.run.specs.Steps.{passed, taken, stored, landed}
@@ -33,11 +33,11 @@ use Rattle.playback.specs.Parts.{clocksAfter, placeAfter, countedOff}
 use Rattle.playback.proofs.Clocks.{advanced-run}
 use Rattle.playback.proofs.Cycles.{counts-off}
 
-long : (d : ℕ) → 1000000000 < d → spanCheck d ≡ Refused refusal.TooLong
-long d l = unless-broken (decLe d 1000000000) refusal.TooLong (λ g. let f : ⊥ = omega arith in f)
+long : (d : ℕ) → spanMost < d → spanCheck d ≡ Refused refusal.TooLong
+long d l = unless-broken (decLe d spanMost) refusal.TooLong (λ g. let f : ⊥ = omega arith in f)
 
-short : (d : ℕ) → d ≤ 1000000000 → spanCheck d ≡ Within
-short d l = unless-kept (decLe d 1000000000) refusal.TooLong l
+short : (d : ℕ) → d ≤ spanMost → spanCheck d ≡ Within
+short d l = unless-kept (decLe d spanMost) refusal.TooLong l
 
 -- ---- pass
 
@@ -47,11 +47,11 @@ module _ (r : Run) (d : ℕ) where
   pass-damaged n = moved-refused _ r _ refusal.Damaged (damaged-first r _ n)
 
   module _ (s : SoundRun r) where
-    pub pass-long : 1000000000 < d → refused r refusal.TooLong ≡ passOf r d
+    pub pass-long : spanMost < d → refused r refusal.TooLong ≡ passOf r d
     unfolding passOf passCheck
     pass-long l = moved-refused _ r _ refusal.TooLong (sound-then r _ s ∙ long d l)
 
-    pub pass-granted : (q : Run) → d ≤ 1000000000 → q ≡ passed r d → granted q ≡ passOf r d
+    pub pass-granted : (q : Run) → d ≤ spanMost → q ≡ passed r d → granted q ≡ passOf r d
     unfolding passOf passCheck
     pass-granted q l e = moved-granted _ r _ q (sound-then r _ s ∙ short d l) e
 
@@ -97,11 +97,11 @@ module _ (r : Run) (d : ℕ) where
   finish-damaged n = moved-refused _ r _ refusal.Damaged (damaged-first r _ n)
 
   module _ (s : SoundRun r) where
-    pub finish-long : 1000000000 < d → refused r refusal.TooLong ≡ finishOf r d
+    pub finish-long : spanMost < d → refused r refusal.TooLong ≡ finishOf r d
     unfolding finishOf finishCheck
     finish-long l = moved-refused _ r _ refusal.TooLong (sound-then r _ s ∙ first-refused _ _ (long d l))
 
-    module _ (l : d ≤ 1000000000) where
+    module _ (l : d ≤ spanMost) where
       pub finish-nothing : r .underway ≡ underway.Nothing → refused r refusal.NothingUnderway ≡ finishOf r d
       unfolding finishOf finishCheck
       finish-nothing e =

@@ -9,14 +9,14 @@ use lib.ListN.{getD, set}
 use Rattle.drive.specs.declared.Show.{Show}
 use Rattle.run.specs.declared.State.{State}
 use Rattle.run.specs.declared.Run.{Run}
-use Rattle.run.specs.Run.{playing, noState, putMost, withStates}
+use Rattle.run.specs.Run.{spanMost, playing, noState, putMost, withStates}
 use Rattle.run.specs.Sound.{SoundRun}
 use Rattle.run.specs.Steps.{changed, ticked, statesAfter, passed}
 use Rattle.run.proofs.Changed.{changed-none, changed-more, changed-above}
 use Rattle.playback.specs.Parts.{Clocked, tickedBy, clocksAfter}
 
 -- R x d keeps to 64 bits.
-pub moves-few : (rate d : ℕ) → rate < 4294967296 → d ≤ 1000000000 → rate * d ≤ 4294967296 * 1000000000
+pub moves-few : (rate d : ℕ) → rate < 4294967296 → d ≤ spanMost → rate * d ≤ 4294967296 * spanMost
 moves-few rate d a b = mul-le-mul {n₂ = 4294967296} (le-of-lt a) b
 
 module _ (rate d : ℕ) (s : State) where

@@ -8,7 +8,7 @@ use Rattle.drive.specs.Checks.{unless, first}
 use Rattle.run.specs.declared.Underway.{Underway}
 use Rattle.run.specs.declared.Underway.the-variants as underway
 use Rattle.run.specs.declared.Run.{Run}
-use Rattle.run.specs.Run.{stateAt}
+use Rattle.run.specs.Run.{spanMost, stateAt}
 use Rattle.run.specs.declared.Moved.{Moved}
 use Rattle.run.specs.Decisions.{soundCheck}
 use Rattle.run.specs.Answers.{moved, sessionCheck}
@@ -19,7 +19,7 @@ use Rattle.player.specs.Answers.{earlyCheck, heldCheck}
 
 -- 11: d over 1,000,000,000
 abbrev pub spanCheck : ℕ → Check
-spanCheck d = unless (decLe d 1000000000) refusal.TooLong
+spanCheck d = unless (decLe d spanMost) refusal.TooLong
 
 -- 19, 11
 unfoldable pub passCheck : Run → ℕ → Check

@@ -4,7 +4,7 @@ mod cycle;
 
 ghost use mathlib.Core.Path.{_≡_};
 ghost use Prim.Native.Nat.{_*_, _≤_};
-ghost use Rattle.run.specs.Run.{putMost};
+ghost use Rattle.run.specs.Run.{spanMost, putMost};
 ghost use Rattle.run.specs.Steps.{ticked, filled};
 ghost use Rattle.playback.specs.Answers.{passOf, takeOf, finishOf};
 ghost use Rattle.playback.specs.Parts.{Clocked, clocksAfter};
@@ -24,7 +24,7 @@ use sound::test_run;
 // C of one session after d µs.
 fn tick(rate: u32, d: u64, state: State) -> State
     requires { ⌜ (state .taken ≤ putMost) × (state .clock ≤ state .taken * 1000000) ⌝ }
-    requires { ⌜ d ≤ 1000000000 ⌝ }
+    requires { ⌜ d ≤ spanMost ⌝ }
     ensures { λ r. ⌜ r ≡ ticked rate d state ⌝ }
 {
     let most = state.taken * 1_000_000;
@@ -41,7 +41,7 @@ fn tick(rate: u32, d: u64, state: State) -> State
 // The clocks after d µs. Of the run only the parts that they need, as the whole would be copied.
 fn advance(show: Show, mut states: [State; 16], started: bool, d: u64) -> [State; 16]
     requires { ⌜ Clocked (show .playing) states ⌝ }
-    requires { ⌜ d ≤ 1000000000 ⌝ }
+    requires { ⌜ d ≤ spanMost ⌝ }
     ensures { λ r. ⌜ r ≡ clocksAfter started show d states ⌝ }
 {
     if !started {

@@ -20,7 +20,7 @@ use Rattle.verdict.specs.WorstTimes.{worstOf}
 use Rattle.showfile.specs.declared.Written.{Written}
 use Rattle.showfile.specs.declared.trailer.Trailer.{Trailer}
 use Rattle.showfile.specs.File.{trailerOf, fileOf}
-use Rattle.showfile.specs.Checks.{noteLength, distanced?, trailerCheck}
+use Rattle.showfile.specs.Checks.{fileLeast, fileMost, noteMost, noteLength, distanced?, trailerCheck}
 use Rattle.showfile.specs.Answers.{reading, readCheck, readAt, readOf, shownAt}
 use Rattle.filing.specs.Answers.{writeCheck, writtenOf}
 use Rattle.trips.specs.Answers.{rereadOf, copyCheck, copiedOf}
@@ -44,7 +44,7 @@ use Rattle.run.specs.declared.Underway.{Underway}
 use Rattle.run.specs.declared.Underway.the-variants as underway
 use Rattle.run.specs.declared.Run.{Run}
 use Rattle.run.specs.declared.Opened.{Opened}
-use Rattle.run.specs.Run.{playing, stateAt, seatAt, onward}
+use Rattle.run.specs.Run.{spanMost, playing, stateAt, seatAt, onward}
 use Rattle.run.specs.Decisions.{sound?, state?, true?, false?, put?, soundCheck}
 use Rattle.run.specs.Steps.{skipped}
 use Rattle.run.proofs.Steps.{ite-either}
@@ -73,11 +73,11 @@ reading-all : (f : List ℕ) (at : ℕ) (t : Trailer) → Says Refused (readChec
 unfolding readCheck trailerCheck
 reading-all f at t =
     let l : List ℕ = 1 ∷ 2 ∷ 3 ∷ 4 ∷ 5 ∷ 6 ∷ 7 ∷ [] in
-    first-says l _ _ (unless-says l (between? 20 (length f) 1428) refusal.FileLength tt)
+    first-says l _ _ (unless-says l (between? fileLeast (length f) fileMost) refusal.FileLength tt)
     (first-says l _ _
     (first-says l _ _ (unless-says l (counts? (t .laid) (t .playing)) refusal.Counts tt)
     (first-says l _ _ (unless-says l (distanced? at t) refusal.Distances tt)
-    (unless-says l (decLe (noteLength at t) 1024) refusal.NoteLength tt)))
+    (unless-says l (decLe (noteLength at t) noteMost) refusal.NoteLength tt)))
     (limits-say l (shownAt f at t) tt tt tt))
 
 read-says : (f : List ℕ) → Says Refused (readOf f .check) (1 ∷ 2 ∷ 3 ∷ 4 ∷ 5 ∷ 6 ∷ 7 ∷ [])
@@ -92,7 +92,7 @@ unfolding writeCheck
 writing-all x note room =
     let l : List ℕ = 2 ∷ 4 ∷ 5 ∷ 6 ∷ 7 ∷ 16 ∷ [] in
     first-says l _ _ (unless-says l (counts? (x .laid) (x .playing)) refusal.Counts tt)
-    (first-says l _ _ (unless-says l (decLe (length note) 1024) refusal.NoteLength tt)
+    (first-says l _ _ (unless-says l (decLe (length note) noteMost) refusal.NoteLength tt)
     (first-says l _ _ (limits-say l x tt tt tt) (unless-says l (decLe (length (fileOf x note)) room) refusal.BufferShort tt)))
 
 copying-all : (f : List ℕ) (room : ℕ) → Says Refused (copyCheck f room) (1 ∷ 2 ∷ 3 ∷ 4 ∷ 5 ∷ 6 ∷ 7 ∷ 16 ∷ [])
@@ -153,7 +153,7 @@ module _ (r : Run) where
   unfolding passOf passCheck
   pass-says d =
       let l : List ℕ = 19 ∷ 11 ∷ [] in
-      moved-says l _ r _ (first-says l _ _ (sound-says l tt) (unless-says l (decLe d 1000000000) refusal.TooLong tt))
+      moved-says l _ r _ (first-says l _ _ (sound-says l tt) (unless-says l (decLe d spanMost) refusal.TooLong tt))
 
   take-says : (i n : ℕ) → Says Refused (takeOf r i n .check) (19 ∷ 9 ∷ 12 ∷ 10 ∷ [])
   unfolding takeOf takeCheck
@@ -171,7 +171,7 @@ module _ (r : Run) where
       let l : List ℕ = 19 ∷ 11 ∷ 17 ∷ [] in
       moved-says l _ r _
       (first-says l _ _ (sound-says l tt)
-      (first-says l _ _ (unless-says l (decLe d 1000000000) refusal.TooLong tt) (busy-says (r .underway))))
+      (first-says l _ _ (unless-says l (decLe d spanMost) refusal.TooLong tt) (busy-says (r .underway))))
     where
       busy-says : (u : Underway) → Says Refused (busyCheck u) (19 ∷ 11 ∷ 17 ∷ [])
       busy-says underway.Nothing = refused-says (19 ∷ 11 ∷ 17 ∷ []) refusal.NothingUnderway tt

@@ -13,7 +13,7 @@ use Rattle.drive.specs.Outcomes.{Outcome, granted, checkOutcome}
 use Rattle.drive.proofs.Checks.{first-within}
 use Rattle.showfile.specs.declared.Written.{Written}
 use Rattle.showfile.specs.File.{fileOf, zeroed}
-use Rattle.showfile.specs.Checks.{noteLength, distanced?, trailerCheck}
+use Rattle.showfile.specs.Checks.{fileLeast, fileMost, noteMost, noteLength, distanced?, trailerCheck}
 use Rattle.showfile.specs.Answers.{readCheck, readAt, readOf, shownAt}
 use Rattle.filing.specs.Answers.{roomCheck, writeCheck, writtenOf}
 use Rattle.trips.specs.Answers.{rereadOf, copyCheck, copiedOf}
@@ -37,14 +37,14 @@ file-tells f o g =
     let at = trailerAt f in
     let t = trailerIn f in
     let limits = limitsCheck (shownAt f at t) in
-    tells-then o _ (unless-fails (between? 20 (length f) 1428)) refl
+    tells-then o _ (unless-fails (between? fileLeast (length f) fileMost)) refl
     (λ size.
     rw (after-first (trailerCheck at t) limits o)
     (tells-then (after limits o) _ (unless-fails (counts? (t .laid) (t .playing))) refl
     (λ counts.
     tells-then (after limits o) _ (unless-fails (distanced? at t)) refl
     (λ far.
-    tells-last (after limits o) (most-tests (noteLength at t) 1024) refl
+    tells-last (after limits o) (most-tests (noteLength at t) noteMost) refl
     (λ note.
     limits-tell (shownAt f at t) o
     (λ e. g (first-within _ _ size ∙ first-within _ _ (first-within _ _ counts ∙ first-within _ _ far ∙ note) ∙ e)))))))
@@ -59,7 +59,7 @@ write-tells x note room =
     let size = length (fileOf x note) in
     tells-then _ _ (unless-fails (counts? (x .laid) (x .playing))) refl
     (λ e.
-    tells-then _ _ (most-tests (length note) 1024) refl
+    tells-then _ _ (most-tests (length note) noteMost) refl
     (λ e.
     rw (after-first (limitsCheck x) (roomCheck size room) (granted []))
     (limits-tell x (after (roomCheck size room) (granted [])) (λ e. tells-last _ (most-tests size room) refl (λ e. refl)))))

@@ -12,7 +12,7 @@ use Rattle.run.specs.declared.State.{State}
 use Rattle.run.specs.declared.Underway.{Underway}
 use Rattle.run.specs.declared.Underway.the-variants.{Nothing, Read}
 use Rattle.run.specs.declared.Run.{Run}
-use Rattle.run.specs.Run.{playing, stateAt, seatAt, onward, PutAt}
+use Rattle.run.specs.Run.{spanMost, playing, stateAt, seatAt, onward, PutAt}
 use Rattle.run.specs.Decisions.{sound?, state?, true?, false?, put?, soundCheck}
 use Rattle.run.specs.Answers.{sessionCheck, freeCheck}
 use Rattle.run.specs.Steps.{skipped, passed, taken}
@@ -46,7 +46,7 @@ module _ (r : Run) where
   some-tests = unless-tests (decLt 0 (playing r)) (λ b h. let f : ⊥ = omega arith in f) (λ n. omega arith)
 
 span-tests : (d : ℕ) → Tests (TooLong d) refusal.TooLong (spanCheck d)
-span-tests d = most-tests d 1000000000
+span-tests d = most-tests d spanMost
 
 held-tests : (s : State) (n : ℕ) → Tests (TooMuch s n) refusal.TooMuch (heldCheck s n)
 held-tests s n = most-tests n (s .put - s .taken)

@@ -18,6 +18,7 @@ use Rattle.cost.specs.Bound.{worstTime, edges, ceil}
 use Rattle.cost.specs.Costs.{costOf}
 use Rattle.showfile.specs.Bytes.{wordBytes, halfBytes, fourBytes, rowBytes}
 use Rattle.showfile.specs.File.{layoutBytes, sessionBytes, trailerBytes, trailerFor, fileOf, zeroed}
+use Rattle.showfile.specs.Checks.{noteMost}
 use Rattle.showfile.specs.declared.Reading.{Reading}
 use Rattle.showfile.specs.Answers.{reading, readOf}
 use Rattle.trips.proofs.Trip.{file-read}
@@ -42,7 +43,7 @@ use Rattle.promises.proofs.Table.{table}
 use Rattle.promises.proofs.Trips.{trips}
 
 -- A file that was written of a show is told as the show was decided.
-module _ (x : Show) (note : List ℕ) (shaped : Shaped x) (w : ShowWithin x) (h : length note ≤ 1024) (d : Decision) (is : DecisionIs x d) where
+module _ (x : Show) (note : List ℕ) (shaped : Shaped x) (w : ShowWithin x) (h : length note ≤ noteMost) (d : Decision) (is : DecisionIs x d) where
   -- what is read of it
   abbrev got : Reading
   got = reading Within (zeroed x) (length note)

@@ -19,6 +19,7 @@ use Rattle.drive.proofs.Shows.{check-within}
 use Rattle.cost.specs.Bound.{worstTime, edges, ceil}
 use Rattle.cost.specs.Costs.{costOf}
 use Rattle.showfile.specs.File.{fileOf, zeroed}
+use Rattle.showfile.specs.Checks.{noteMost}
 use Rattle.showfile.specs.declared.Reading.{Reading}
 use Rattle.showfile.specs.Answers.{reading, readOf}
 use Rattle.showfile.proofs.Readable.{read-within}
@@ -54,7 +55,7 @@ use Rattle.promises.proofs.Table.{table, settles, all, both}
 use Rattle.promises.proofs.Trips.{trips}
 
 -- A file that was written of a show is told by the reason for the show.
-module _ (x : Show) (note : List ℕ) (shaped : Shaped x) (w : ShowWithin x) (h : length note ≤ 1024) (r : Reason) (is : ReasonIs x r) where
+module _ (x : Show) (note : List ℕ) (shaped : Shaped x) (w : ShowWithin x) (h : length note ≤ noteMost) (r : Reason) (is : ReasonIs x r) where
   -- what is read of it
   abbrev got : Reading
   got = reading Within (zeroed x) (length note)

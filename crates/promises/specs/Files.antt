@@ -9,6 +9,7 @@ use Rattle.drive.specs.declared.refusal.Check.the-variants.{Within}
 use Rattle.drive.specs.Limits.{ShowWithin, Alike}
 use Rattle.showfile.specs.Bytes.{Bytes}
 use Rattle.showfile.specs.File.{fileOf, zeroed}
+use Rattle.showfile.specs.Checks.{noteMost}
 use Rattle.showfile.specs.Answers.{readOf, noteOf}
 
 -- a show as a program holds it
@@ -25,5 +26,5 @@ pub record ReadAgain (x : Show) (note : List ℕ) : Type 0 where
 
 -- Writing what was read gives the same bytes.
 pub record Trips : Type 0 where
-  pub read-again : (x : Show) (note : List ℕ) → Shaped x → ShowWithin x → length note ≤ 1024 → ReadAgain x note
+  pub read-again : (x : Show) (note : List ℕ) → Shaped x → ShowWithin x → length note ≤ noteMost → ReadAgain x note
   pub written-again : (f : List ℕ) → Bytes f → readOf f .check ≡ Within → fileOf (readOf f .show) (noteOf f) ≡ f

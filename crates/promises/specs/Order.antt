@@ -24,7 +24,7 @@ use Rattle.reason.specs.Answers.{ReasonIs, loadedOf, reasonOutcome, loadedOutco
 use Rattle.showfile.specs.declared.Written.{Written}
 use Rattle.showfile.specs.declared.trailer.Trailer.{Trailer}
 use Rattle.showfile.specs.File.{trailerOf, fileOf}
-use Rattle.showfile.specs.Checks.{noteLength, Distanced}
+use Rattle.showfile.specs.Checks.{fileLeast, fileMost, noteMost, noteLength, Distanced}
 use Rattle.showfile.specs.Answers.{readOf, shownAt}
 use Rattle.filing.specs.Answers.{writtenOf}
 use Rattle.trips.specs.Answers.{rereadOf, copiedOf}
@@ -35,7 +35,7 @@ use Rattle.run.specs.Opening.{OpenIs}
 use Rattle.run.specs.declared.State.{State}
 use Rattle.run.specs.declared.Underway.the-variants.{Nothing, Read}
 use Rattle.run.specs.declared.Run.{Run}
-use Rattle.run.specs.Run.{playing, stateAt, seatAt, onward, RoomAt, PutAt}
+use Rattle.run.specs.Run.{spanMost, playing, stateAt, seatAt, onward, RoomAt, PutAt}
 use Rattle.run.specs.Sound.{StateSound, SoundRun}
 use Rattle.sound.specs.Answers.{testOf, testOutcome}
 use Rattle.player.specs.Answers.{drawnOf}
@@ -105,13 +105,13 @@ abbrev pub FileThen : List ℕ → (Outcome → Type 0) → Outcome → Type 0
 FileThen f rest =
     let at = trailerAt f in
     let t = trailerIn f in
-    1 when (Between 20 (length f) 1428 → ⊥) else 2 when (CountsWithin (t .laid) (t .playing) → ⊥) else 3 when (Distanced at t → ⊥) else
-    4 when 1024 < noteLength at t else LimitsThen (shownAt f at t) rest
+    1 when (Between fileLeast (length f) fileMost → ⊥) else 2 when (CountsWithin (t .laid) (t .playing) → ⊥) else 3 when (Distanced at t → ⊥) else
+    4 when noteMost < noteLength at t else LimitsThen (shownAt f at t) rest
 
 -- 2, 4, 5, 6, 7, 16
 abbrev pub WriteOrder : Show → List ℕ → ℕ → Outcome → Type 0
 WriteOrder x note room =
-    2 when (CountsWithin (x .laid) (x .playing) → ⊥) else 4 when 1024 < length note else
+    2 when (CountsWithin (x .laid) (x .playing) → ⊥) else 4 when noteMost < length note else
     LimitsThen x (16 when room < length (fileOf x note) else Grants)
 
 pub record OfFiles : Type 0 where
@@ -137,7 +137,7 @@ TooMuch s n = s .put - s .taken < n
 
 -- 11: a time over 1,000,000,000 µs
 abbrev pub TooLong : ℕ → Type 0
-TooLong d = 1000000000 < d
+TooLong d = spanMost < d
 
 -- 13: a read under way
 abbrev pub Reading : Run → Type 0

@@ -45,6 +45,10 @@ Room block x s = s .put + block ≤ s .taken + x .buffer
 abbrev pub RoomAt : Run → ℕ → Type 0
 RoomAt r i = Room (r .show .drive .block) (clipAt r i) (stateAt r i)
 
+-- the longest time that may pass in one call, in µs
+abbrev pub spanMost : ℕ
+spanMost = 1000000000
+
 -- the limit on P, and that one more block keeps to it
 abbrev pub putMost : ℕ
 putMost = 1099511627776

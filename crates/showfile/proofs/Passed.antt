@@ -11,13 +11,13 @@ use Rattle.drive.specs.Checks.{first, countsCheck, limitsCheck}
 use Rattle.drive.proofs.Checks.{unless-kept, unless-within, first-within, first-left, first-right}
 use Rattle.drive.proofs.Shows.{check-within, within-check, limits-left}
 use Rattle.showfile.specs.declared.trailer.Trailer.{Trailer}
-use Rattle.showfile.specs.Checks.{Distanced, distanced?, noteLength, distancesCheck, noteCheck, trailerCheck}
+use Rattle.showfile.specs.Checks.{noteMost, Distanced, distanced?, noteLength, distancesCheck, noteCheck, trailerCheck}
 
 -- the trailer t at `at`, past 2, 3 and 4
 pub record Framed (at : ℕ) (t : Trailer) : Type 0 where
   pub counts : CountsWithin (t .laid) (t .playing)
   pub distances : Distanced at t
-  pub note : noteLength at t ≤ 1024
+  pub note : noteLength at t ≤ noteMost
 
 pub check-framed : (at : ℕ) (t : Trailer) → trailerCheck at t ≡ Within → Framed at t
 unfolding trailerCheck
@@ -29,7 +29,7 @@ check-framed at t e =
     record {
       counts = unless-within (counts? (t .laid) (t .playing)) Counts (first-left c (first d n) e);
       distances = unless-within (distanced? at t) Distances (first-left d n rest);
-      note = unless-within (decLe (noteLength at t) 1024) NoteLength (first-right d n rest);
+      note = unless-within (decLe (noteLength at t) noteMost) NoteLength (first-right d n rest);
     }
 
 pub framed-check : (at : ℕ) (t : Trailer) → Framed at t → trailerCheck at t ≡ Within
@@ -37,7 +37,7 @@ unfolding trailerCheck
 framed-check at t f =
     first-within _ _ (unless-kept (counts? (t .laid) (t .playing)) Counts (f .counts))
     ∙ first-within _ _ (unless-kept (distanced? at t) Distances (f .distances))
-    ∙ unless-kept (decLe (noteLength at t) 1024) NoteLength (f .note)
+    ∙ unless-kept (decLe (noteLength at t) noteMost) NoteLength (f .note)
 
 -- a show past 5, 6 and 7, where 2 is passed
 pub limits-within : (x : Show) → CountsWithin (x .laid) (x .playing) → limitsCheck x ≡ Within → ShowWithin x

@@ -13,7 +13,7 @@ use Rattle.drive.specs.Checks.{first, limitsCheck}
 use Rattle.drive.proofs.Checks.{unless-within, first-left, first-right}
 use Rattle.showfile.specs.declared.trailer.Trailer.{Trailer}
 use Rattle.showfile.specs.File.{trailerOf, showFrom}
-use Rattle.showfile.specs.Checks.{noteLength, lengthCheck, trailerCheck}
+use Rattle.showfile.specs.Checks.{fileLeast, fileMost, noteLength, lengthCheck, trailerCheck}
 use Rattle.showfile.specs.Answers.{reading, shownAt, readCheck, readAt, readOf}
 use Rattle.showfile.proofs.Passed.{Framed, check-framed, limits-within}
 
@@ -26,7 +26,7 @@ last f = trailerOf (drop (end f) f)
 
 -- a file past 1 to 7, and what is read from it
 pub record Readable (f : List ℕ) : Type 0 where
-  pub size : Between 20 (length f) 1428
+  pub size : Between fileLeast (length f) fileMost
   pub framed : Framed (end f) (last f)
   pub within : ShowWithin (shownAt f (end f) (last f))
   pub is : readOf f ≡ reading Within (shownAt f (end f) (last f)) (noteLength (end f) (last f))
@@ -46,7 +46,7 @@ check-readable f e =
     let rest = first-right a (first b (limitsCheck x)) all in
     let framed = check-framed (end f) (last f) (first-left b (limitsCheck x) rest) in
     record {
-      size = unless-within (between? 20 (length f) 1428) FileLength (first-left a (first b (limitsCheck x)) all);
+      size = unless-within (between? fileLeast (length f) fileMost) FileLength (first-left a (first b (limitsCheck x)) all);
       framed = framed;
       within = limits-within x (framed .counts) (first-right b (limitsCheck x) rest);
       is = ap (λ (c : Check). reading c x n) all;

@@ -13,7 +13,7 @@ use Rattle.drive.specs.Checks.{limitsCheck}
 use Rattle.drive.proofs.Checks.{unless-kept, unless-broken, first-refused, first-within}
 use Rattle.showfile.specs.declared.trailer.Trailer.{Trailer}
 use Rattle.showfile.specs.File.{trailerOf}
-use Rattle.showfile.specs.Checks.{Distanced, distanced?, noteLength, trailerCheck}
+use Rattle.showfile.specs.Checks.{fileLeast, fileMost, noteMost, Distanced, distanced?, noteLength, trailerCheck}
 use Rattle.showfile.specs.Answers.{reading, shownAt, readCheck, readAt, readOf}
 
 -- ---- a trailer: 2, 3, 4
@@ -30,27 +30,27 @@ module _ (at : ℕ) (t : Trailer) where
         sym (first-within _ _ (unless-kept (counts? (t .laid) (t .playing)) Counts counts)
         ∙ first-refused _ _ (unless-broken (distanced? at t) Distances h))
 
-    pub trailer-note : Distanced at t → (noteLength at t ≤ 1024 → ⊥) → Refused NoteLength ≡ trailerCheck at t
+    pub trailer-note : Distanced at t → (noteLength at t ≤ noteMost → ⊥) → Refused NoteLength ≡ trailerCheck at t
     unfolding trailerCheck
     trailer-note d h =
         sym (first-within _ _ (unless-kept (counts? (t .laid) (t .playing)) Counts counts)
         ∙ first-within _ _ (unless-kept (distanced? at t) Distances d)
-        ∙ unless-broken (decLe (noteLength at t) 1024) NoteLength h)
+        ∙ unless-broken (decLe (noteLength at t) noteMost) NoteLength h)
 
 -- ---- reading: 1; 2, 3, 4; 5, 6, 7
 
 module _ (f : List ℕ) where
-  pub read-length : (Between 20 (length f) 1428 → ⊥) → reading (Refused FileLength) noShow 0 ≡ readOf f
+  pub read-length : (Between fileLeast (length f) fileMost → ⊥) → reading (Refused FileLength) noShow 0 ≡ readOf f
   unfolding readOf readAt readCheck
-  read-length h = rw (unless-broken (between? 20 (length f) 1428) FileLength h)
+  read-length h = rw (unless-broken (between? fileLeast (length f) fileMost) FileLength h)
 
-  module _ (size : Between 20 (length f) 1428) (t : Trailer) (last : t ≡ trailerOf (drop (length f - 20) f)) where
+  module _ (size : Between fileLeast (length f) fileMost) (t : Trailer) (last : t ≡ trailerOf (drop (length f - 20) f)) where
     pub read-trailer : {w : Refusal} → trailerCheck (length f - 20) t ≡ Refused w → reading (Refused w) noShow 0 ≡ readOf f
     unfolding readOf readAt readCheck
-    read-trailer e = rw (← last, unless-kept (between? 20 (length f) 1428) FileLength size, e)
+    read-trailer e = rw (← last, unless-kept (between? fileLeast (length f) fileMost) FileLength size, e)
 
     pub read-rest :
         trailerCheck (length f - 20) t ≡ Within →
         reading (limitsCheck (shownAt f (length f - 20) t)) (shownAt f (length f - 20) t) (noteLength (length f - 20) t) ≡ readOf f
     unfolding readOf readAt readCheck
-    read-rest e = rw (← last, unless-kept (between? 20 (length f) 1428) FileLength size, e)
+    read-rest e = rw (← last, unless-kept (between? fileLeast (length f) fileMost) FileLength size, e)

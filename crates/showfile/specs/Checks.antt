@@ -25,9 +25,19 @@ distanced? at t =
     decided (λ h. record { far = h .0; near = h .1 .0; inside = h .1 .1 }) (λ b. (b .far, (b .near, b .inside)))
     (Dec·and (ℕ-discrete _ _) (Dec·and (ℕ-discrete _ _) (decLe _ _)))
 
+-- the shortest file and the longest, the longest note
+abbrev pub fileLeast : ℕ
+fileLeast = 20
+
+abbrev pub fileMost : ℕ
+fileMost = 1428
+
+abbrev pub noteMost : ℕ
+noteMost = 1024
+
 -- 1: file under 20 or over 1,428 bytes
 abbrev pub lengthCheck : ℕ → Check
-lengthCheck n = unless (between? 20 n 1428) FileLength
+lengthCheck n = unless (between? fileLeast n fileMost) FileLength
 
 -- 3: a distance differs from its formula, or reaches before the file
 abbrev pub distancesCheck : ℕ → Trailer → Check
@@ -35,7 +45,7 @@ distancesCheck at t = unless (distanced? at t) Distances
 
 -- 4: note over 1,024 bytes
 abbrev pub noteCheck : ℕ → Check
-noteCheck n = unless (decLe n 1024) NoteLength
+noteCheck n = unless (decLe n noteMost) NoteLength
 
 -- 2, 3, 4, of the trailer t that stands at `at`
 unfoldable pub trailerCheck : ℕ → Trailer → Check

@@ -10,7 +10,7 @@ ghost use Rattle.drive.specs.declared.refusal.Check.the-variants.{Within, Refus
 ghost use Rattle.drive.specs.Checks.{limitsCheck};
 ghost use Rattle.drive.specs.Limits.{Between, Tells, noShow};
 ghost use Rattle.showfile.specs.File.{showFrom};
-ghost use Rattle.showfile.specs.Checks.{noteLength, trailerCheck};
+ghost use Rattle.showfile.specs.Checks.{fileLeast, fileMost, noteMost, noteLength, trailerCheck};
 ghost use Rattle.showfile.specs.Answers.{reading, readOf, noteOf, shownAt};
 use crate::rows::get_layouts;
 use crate::rows::get_sessions;
@@ -41,7 +41,7 @@ impl Reading {
     pub const NOTE_MOST: usize = 1_024;
 
     fn length_within(n: usize) -> bool
-        ensures { λ r. ⌜ Tells r (Between 20 n 1428) ⌝ }
+        ensures { λ r. ⌜ Tells r (Between fileLeast n fileMost) ⌝ }
     {
         if n < Reading::FILE_LEAST {
             return false;
@@ -53,7 +53,7 @@ impl Reading {
     }
 
     pub(crate) fn note_within(n: usize) -> bool
-        ensures { λ r. ⌜ Tells r (n ≤ 1024) ⌝ }
+        ensures { λ r. ⌜ Tells r (n ≤ noteMost) ⌝ }
     {
         if Reading::NOTE_MOST < n {
             return false;

@@ -18,7 +18,7 @@ use Rattle.showfile.specs.declared.Reading.{Reading}
 use Rattle.showfile.specs.declared.Written.{Written}
 use Rattle.showfile.specs.Bytes.{Bytes}
 use Rattle.showfile.specs.File.{trailerBytes, showFrom, trailerFor, fileOf, zeroed}
-use Rattle.showfile.specs.Checks.{noteLength, lengthCheck}
+use Rattle.showfile.specs.Checks.{fileLeast, fileMost, noteMost, noteLength, lengthCheck}
 use Rattle.showfile.specs.Answers.{
   reading,
   readCheck,
@@ -64,15 +64,15 @@ pub read-writable :
     writeCheck (readOf f .show) (noteOf f) room ≡ roomCheck (length f) room
 read-writable f b e room =
     let g = check-readable f e in
-    let note : readOf f .note ≤ 1024 = rw (g .is) (g .framed .note) in
-    let short : length (noteOf f) ≤ 1024 = rw (length-take-le (readOf f .note) f (note-inside f)) note in
+    let note : readOf f .note ≤ noteMost = rw (g .is) (g .framed .note) in
+    let short : length (noteOf f) ≤ noteMost = rw (length-take-le (readOf f .note) f (note-inside f)) note in
     room-left (readOf f .show) (noteOf f) room (read-within f e) short ∙ ap (λ (s : List ℕ). roomCheck (length s) room) (file-written f b e)
 
 -- ---- written, then read
 
 -- Reading what was written gives the same note and show, unused places zero.
 pub file-read :
-    (x : Show) (note : List ℕ) → length (x .layouts) ≡ 8 → length (x .sessions) ≡ 16 → ShowWithin x → length note ≤ 1024 →
+    (x : Show) (note : List ℕ) → length (x .layouts) ≡ 8 → length (x .sessions) ≡ 16 → ShowWithin x → length note ≤ noteMost →
     readOf (fileOf x note) ≡ reading Within (zeroed x) (length note)
 unfolding readOf readAt readCheck trailerFor
 file-read x note hl hs w h =
@@ -87,7 +87,7 @@ file-read x note hl hs w h =
     let framed : Framed at (trailerFor x) =
     record { counts = w .counts; distances = record { far = refl; near = refl; inside = omega arith }; note = omega arith } in
     let sized : lengthCheck (length f) ≡ Within =
-    unless-kept (between? 20 (length f) 1428) FileLength (record { low = omega arith; high = omega arith }) in
+    unless-kept (between? fileLeast (length f) fileMost) FileLength (record { low = omega arith; high = omega arith }) in
     rw (
       end-at,
       trailer-read x laid playing w note,
@@ -99,7 +99,7 @@ file-read x note hl hs w h =
     )
 
 pub note-read :
-    (x : Show) (note : List ℕ) → length (x .layouts) ≡ 8 → length (x .sessions) ≡ 16 → ShowWithin x → length note ≤ 1024 →
+    (x : Show) (note : List ℕ) → length (x .layouts) ≡ 8 → length (x .sessions) ≡ 16 → ShowWithin x → length note ≤ noteMost →
     noteOf (fileOf x note) ≡ note
 unfolding fileOf
 note-read x note hl hs w h = rw (file-read x note hl hs w h) (take-at note _ (length note) refl)

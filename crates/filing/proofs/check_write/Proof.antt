@@ -9,6 +9,7 @@ use Rattle.drive.proofs.Checks.{tells-yes, tells-no}
 use Rattle.drive.proofs.Lists.{unmapped}
 use Rattle.drive.proofs.Shows.{check-within}
 use Rattle.showfile.specs.File.{fileOf}
+use Rattle.showfile.specs.Checks.{noteMost}
 use Rattle.filing.proofs.Stops.{write-counts, write-note, write-limits, write-short, write-within}
 use Rattle.filing.proofs.Sizes.{shown-length}
 use borrow.Author.Needs.{needs}
@@ -24,7 +25,7 @@ sessions-sixteen c = search (unmapped, needs)
 counts : (c : tie.Else1) → CountsWithin (c .before .before .before .args .show .laid) (c .before .before .before .args .show .playing)
 counts c = tells-yes _ (c .before .counts-within .result) (not-false _ (c .if1 .left)) (c .before .counts-within .ensures)
 
-short : (c : tie.Else2) → length (c .before .before .before .before .args .note .now) ≤ 1024
+short : (c : tie.Else2) → length (c .before .before .before .before .args .note .now) ≤ noteMost
 short c = omega arith
 
 within : (c : tie.After-enum-told) → ShowWithin (c .before .before .before .before .before .before .before .args .show)

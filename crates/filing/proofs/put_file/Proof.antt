@@ -6,6 +6,7 @@ use lib.ListN.{length}
 use Rattle.drive.specs.Limits.{CountsWithin}
 use Rattle.drive.proofs.Lists.{unmapped}
 use Rattle.showfile.specs.File.{fileOf}
+use Rattle.showfile.specs.Checks.{noteMost}
 use Rattle.filing.proofs.Passed.{Writable, check-writable}
 use Rattle.filing.proofs.Sizes.{shown-length}
 use Rattle.filing.proofs.Filed.{file-filed}
@@ -34,7 +35,7 @@ size c = shown-length _ _ (layouts-eight c) (sessions-sixteen c) (counts c)
 record Fits (c : tie.Start) : Type 0 where
   laid : c .args .show .laid ≤ 8
   playing : c .args .show .playing ≤ 16
-  short : length (c .args .note .now) ≤ 1024
+  short : length (c .args .note .now) ≤ noteMost
   inside : length (c .args .note .now) + 16 * (c .args .show .laid + c .args .show .playing) + 20 ≤ length (c .args .buffer .now)
 
 fits : (c : tie.Start) → Fits c

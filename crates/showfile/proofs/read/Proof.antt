@@ -5,12 +5,13 @@ use lib.ListN.{length}
 use borrow.Author.Tests.{not-true, not-false}
 use Rattle.drive.specs.Limits.{Between}
 use Rattle.drive.proofs.Checks.{tells-yes, tells-no}
+use Rattle.showfile.specs.Checks.{fileLeast, fileMost}
 use Rattle.showfile.proofs.Stops.{read-length, read-trailer, read-rest}
 use borrow.Author.Needs.{needs}
 use Rattle.showfile.proofs.read.Statement.{statement}
 use Rattle.showfile.proofs.read.Tie as tie
 
-size : (c : tie.Else1) → Between 20 (length (c .before .before .before .args .file .now)) 1428
+size : (c : tie.Else1) → Between fileLeast (length (c .before .before .before .args .file .now)) fileMost
 size c = tells-yes _ (c .before .length-within .result) (not-false _ (c .if1 .left)) (c .before .length-within .ensures)
 
 length-within-requires : tie.Need-length-within-requires
