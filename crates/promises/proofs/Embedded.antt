@@ -1,8 +1,8 @@
 -- The calls for C. Assumes nothing.
 use Prim.Native.Nat.{ℕ, _≤_, _<_}
-use mathlib.Core.Path.{_≡_, refl, sym, ap, subst, _∙_}
+use mathlib.Core.Path.{_≡_, refl}
 use mathlib.Core.List.{List, [], _∷_}
-use mathlib.Core.Logic.{_↔_, inl, inr, Dec·and}
+use mathlib.Core.Logic.{_↔_, Dec·and}
 use native.Mathlib.Decide.{decLe}
 use native.Mathlib.Omega.{arith}
 use lib.ListN.{length, length-append}
@@ -30,12 +30,11 @@ use Rattle.report.specs.Text.{sessionLines}
 use Rattle.report.specs.Answers.{TextIs, granted, eight, unread, loadIn, textMost}
 use Rattle.embed.specs.Answers.{codeOf, verdictCode, filledBy, Slices, Enough, ReportedIs, reported, FileDecisionIs, DecidedIs, FileReasonIs, ReasonedIs, reasonCode, reasonOver}
 use Rattle.embed.specs.Answers as answers
-use Rattle.promises.specs.Refusals.{OneOf, Says}
-use Rattle.promises.specs.Embedded.{Embedded}
+use Rattle.promises.specs.Refusals.{Says}
+use Rattle.promises.specs.Embedded.{Embedded, codeOutcome}
 use Rattle.promises.proofs.Answered.{answered}
-use Rattle.promises.proofs.Only.{only}
-use Rattle.promises.proofs.OrderForC.{code-number, code-place, code-some, same-number, decided-tells, reasoned-tells}
-use Rattle.promises.proofs.Says.{same-verdict, one-more}
+use Rattle.promises.proofs.OrderForC.{code-number, code-place, code-some, code-outcome, decided-tells, reasoned-tells}
+use Rattle.promises.proofs.Says.{says, grants-among, when-among, file-among}
 
 -- ---- answers
 
@@ -81,56 +80,18 @@ module _ (f : List ℕ) where
 
 -- ---- the numbers that are said
 
--- those of deciding are among those of a file
-among : (n : ℕ) → OneOf (2 ∷ 5 ∷ 6 ∷ 7 ∷ 8 ∷ []) n → OneOf (1 ∷ 2 ∷ 3 ∷ 4 ∷ 5 ∷ 6 ∷ 7 ∷ 8 ∷ []) n
-among n (inl e) = inr (inl e)
-among n (inr (inl e)) = inr (inr (inr (inr (inl e))))
-among n (inr (inr (inl e))) = inr (inr (inr (inr (inr (inl e)))))
-among n (inr (inr (inr (inl e)))) = inr (inr (inr (inr (inr (inr (inl e))))))
-among n (inr (inr (inr (inr (inl e))))) = inr (inr (inr (inr (inr (inr (inr (inl e)))))))
-
-of-file : (f : List ℕ) (d : Decision) → FileDecisionIs f d → Says verdict.Refused (d .verdict) (1 ∷ 2 ∷ 3 ∷ 4 ∷ 5 ∷ 6 ∷ 7 ∷ 8 ∷ [])
-of-file f d (answers.read _ e h) w p = among (numberOf w) (only .deciding (readOf f .show) d h w p)
-of-file f d (answers.unread v e) w p =
-    one-more (1 ∷ 2 ∷ 3 ∷ 4 ∷ 5 ∷ 6 ∷ 7 ∷ []) (8 ∷ []) (numberOf w) (only .reading f w (e ∙ ap check.Refused (same-verdict p)))
-
-decided-by :
-    (f : List ℕ) (d : Decision) (v : Verdict) → d .verdict ≡ v → FileDecisionIs f d → (w : Refusal) → verdictCode v ≡ codeOf w →
-    OneOf (1 ∷ 2 ∷ 3 ∷ 4 ∷ 5 ∷ 6 ∷ 7 ∷ 8 ∷ []) (numberOf w)
-decided-by f d verdict.Accepted p h w e = absurd (code-some w (sym e))
-decided-by f d (verdict.Refused v) p h w e = subst (OneOf (1 ∷ 2 ∷ 3 ∷ 4 ∷ 5 ∷ 6 ∷ 7 ∷ 8 ∷ [])) (same-number v w e) (of-file f d h v p)
-
 says-deciding :
-    (f : List ℕ) (b : Slices) (r : ℕ) (x : Slices) → DecidedIs f b r x → (w : Refusal) → r ≡ codeOf w →
-    OneOf (16 ∷ 1 ∷ 2 ∷ 3 ∷ 4 ∷ 5 ∷ 6 ∷ 7 ∷ 8 ∷ []) (numberOf w)
-says-deciding f b r x (answers.short n) w e = inl (sym (same-number BufferShort w e))
-says-deciding f b r x (answers.decided d h k) w e = inr (decided-by f d (d .verdict) refl k w e)
+    (f : List ℕ) (b : Slices) (r : ℕ) (x : Slices) → DecidedIs f b r x → Says codeOf r (16 ∷ 1 ∷ 2 ∷ 3 ∷ 4 ∷ 5 ∷ 6 ∷ 7 ∷ 8 ∷ [])
+says-deciding f b r x h =
+    let l : List ℕ = 16 ∷ 1 ∷ 2 ∷ 3 ∷ 4 ∷ 5 ∷ 6 ∷ 7 ∷ 8 ∷ [] in
+    says codeOf codeOutcome code-outcome l r
+    (when-among l tt (file-among l tt tt tt (when-among l tt (grants-among l)) f tt tt tt tt) (decided-tells f b r x h))
 
--- those of the reason are among those of a file too
-reason-among : (n : ℕ) → OneOf (2 ∷ 5 ∷ 6 ∷ 7 ∷ []) n → OneOf (1 ∷ 2 ∷ 3 ∷ 4 ∷ 5 ∷ 6 ∷ 7 ∷ []) n
-reason-among n (inl e) = inr (inl e)
-reason-among n (inr (inl e)) = inr (inr (inr (inr (inl e))))
-reason-among n (inr (inr (inl e))) = inr (inr (inr (inr (inr (inl e)))))
-reason-among n (inr (inr (inr (inl e)))) = inr (inr (inr (inr (inr (inr (inl e))))))
-
-reason-of-file : (f : List ℕ) (p : Reason) → FileReasonIs f p → Says reason.Refused p (1 ∷ 2 ∷ 3 ∷ 4 ∷ 5 ∷ 6 ∷ 7 ∷ [])
-reason-of-file f p (answers.read _ e h) w q = reason-among (numberOf w) (only .why (readOf f .show) p h w q)
-reason-of-file f p (answers.unread v e) w q = only .reading f w (e ∙ ap check.Refused (let same : v ≡ w = cc in same))
-
-reasoned-by :
-    (f : List ℕ) (p q : Reason) → p ≡ q → FileReasonIs f p → (w : Refusal) → reasonCode q ≡ codeOf w →
-    OneOf (1 ∷ 2 ∷ 3 ∷ 4 ∷ 5 ∷ 6 ∷ 7 ∷ []) (numberOf w)
-reasoned-by f p reason.None k h w e = absurd (code-some w (sym e))
-reasoned-by f p reason.Overload k h w e = absurd (code-some w (sym e))
-reasoned-by f p reason.Beyond k h w e = absurd (code-some w (sym e))
-reasoned-by f p (reason.Buffer i size) k h w e = absurd (code-some w (sym e))
-reasoned-by f p (reason.Refused v) k h w e = subst (OneOf (1 ∷ 2 ∷ 3 ∷ 4 ∷ 5 ∷ 6 ∷ 7 ∷ [])) (same-number v w e) (reason-of-file f p h v k)
-
-says-reasoning :
-    (f b : List ℕ) (r : ℕ) (x : List ℕ) → ReasonedIs f b r x → (w : Refusal) → r ≡ codeOf w →
-    OneOf (16 ∷ 1 ∷ 2 ∷ 3 ∷ 4 ∷ 5 ∷ 6 ∷ 7 ∷ []) (numberOf w)
-says-reasoning f b r x (answers.short n) w e = inl (sym (same-number BufferShort w e))
-says-reasoning f b r x (answers.reasoned p h k) w e = inr (reasoned-by f p p refl k w e)
+says-reasoning : (f b : List ℕ) (r : ℕ) (x : List ℕ) → ReasonedIs f b r x → Says codeOf r (16 ∷ 1 ∷ 2 ∷ 3 ∷ 4 ∷ 5 ∷ 6 ∷ 7 ∷ [])
+says-reasoning f b r x h =
+    let l : List ℕ = 16 ∷ 1 ∷ 2 ∷ 3 ∷ 4 ∷ 5 ∷ 6 ∷ 7 ∷ [] in
+    says codeOf codeOutcome code-outcome l r
+    (when-among l tt (file-among l tt tt tt (grants-among l) f tt tt tt tt) (reasoned-tells f b r x h))
 
 -- ---- what is left
 

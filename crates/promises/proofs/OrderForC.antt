@@ -1,6 +1,6 @@
 -- The calls for C: the one number, and the order in which it tells refusals. Assumes nothing.
 use Prim.Native.Nat.{ℕ, _/_, _%_, _<_}
-use mathlib.Core.Path.{_≡_, refl, sym, ap, subst, _∙_}
+use mathlib.Core.Path.{_≡_, refl, sym, subst, _∙_}
 use mathlib.Core.List.{List, []}
 use native.Mathlib.Omega.{arith}
 use lib.ListN.{length}
@@ -42,10 +42,7 @@ code-place w = let n = numbered .number w in omega arith
 pub code-some : (w : Refusal) → codeOf w ≡ 0 → ⊥
 code-some w e = let n = numbered .number w in omega arith
 
-pub same-number : (v w : Refusal) → codeOf v ≡ codeOf w → numberOf v ≡ numberOf w
-same-number v w e = sym (code-number v) ∙ ap (λ (n : ℕ). n % 256) e ∙ code-number w
-
-code-outcome : (w : Refusal) → codeOutcome (codeOf w) ≡ refusedBy w
+pub code-outcome : (w : Refusal) → codeOutcome (codeOf w) ≡ refusedBy w
 code-outcome w = rw (code-number w, code-place w)
 
 verdict-outcome : (v : Verdict) → codeOutcome (verdictCode v) ≡ verdictOutcome v

@@ -37,7 +37,7 @@ use Rattle.reason.proofs.Once.{reason-once}
 use Rattle.reason.proofs.Unused.{alike-reason, alike-load}
 use Rattle.promises.specs.Refusals.{OneOf}
 use Rattle.promises.proofs.Says.{same-refusal, same-verdict}
-use Rattle.promises.proofs.Only.{only, of-refused}
+use Rattle.promises.proofs.Only.{only}
 use Rattle.promises.specs.Reasons.{ForEight, WhenTrue, AsDecided, ExactSize, Reasons, loadSum, fullLoad}
 
 -- ---- when true
@@ -56,6 +56,9 @@ module _ (s : Show) where
   of-buffer : (i size : ℕ) → ReasonIs s (reason.Buffer i size) → ShowWithin s × TooSmall (loadOf s) bufferMost i size
   of-buffer i size (buffer j more w a) = (w, a)
 
+  of-refused : (w : Refusal) → ReasonIs s (reason.Refused w) → showCheck s ≡ check.Refused w
+  of-refused w (why.outside v out) = out
+
   one-of : (r : Reason) → ReasonIs s r → ShowWithin s → (r ≡ reason.None) ⊎ ForEight r
   one-of r (none w a) v = inl refl
   one-of r (overload w a) v = inr (inl refl)
@@ -71,7 +74,7 @@ module _ (s : Show) where
         beyond = (λ e. of-beyond (subst (ReasonIs s) e h), λ p. reason-once s r reason.Beyond h (beyond (p .0) (p .1)));
         buffer = λ i size.
             (λ e. of-buffer i size (subst (ReasonIs s) e h), λ p. reason-once s r (reason.Buffer i size) h (buffer i size (p .0) (p .1)));
-        refused = λ w. (λ e. of-refused s w (subst (ReasonIs s) e h), λ e. reason-once s r (reason.Refused w) h (why.outside w e));
+        refused = λ w. (λ e. of-refused w (subst (ReasonIs s) e h), λ e. reason-once s r (reason.Refused w) h (why.outside w e));
         one = one-of r h;
       }
 

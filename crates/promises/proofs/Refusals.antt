@@ -31,8 +31,7 @@ use Rattle.trips.proofs.Trip.{written-check}
 use Rattle.run.specs.declared.Opened.{Opened}
 use Rattle.run.specs.Opening.{OpenIs, openedBy, noRun}
 use Rattle.promises.specs.Refusals.{Buffers, Empty}
-use Rattle.promises.proofs.Says.{same-verdict, same-answer, holds-refused, fails-refused}
-use Rattle.promises.proofs.Only.{opened-refused}
+use Rattle.promises.proofs.Says.{same-verdict, same-answer, holds-refused, fails-refused, opened-refused}
 
 -- ---- buffers
 
