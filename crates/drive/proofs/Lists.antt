@@ -1,20 +1,17 @@
 -- Laws of rows of places, and of arrays of structs that are fields of a struct. Assumes nothing.
-use Prim.Native.Nat.{ℕ, zero, suc, _+_, _-_, _≤_, _<_}
+use Prim.Native.Nat.{ℕ, zero, suc, _+_, _-_, _<_}
 use mathlib.Core.Path.{_≡_, refl, sym, _∙_, ap, ap₂}
 use mathlib.Core.List.{List, [], _∷_, _++_, map, append-assoc}
 use native.Mathlib.Numerals.{add-one}
 use native.Mathlib.Omega.{arith}
 use native.Mathlib.Decide.{decLt}
-use lib.ListN.{length, getD, set, replicate, length-map, length-append, List·getD-append, List·getD-eq-default}
+use lib.ListN.{length, getD, set, replicate, length-map, length-append, List·getD-append}
 use lib.Seq.{set-at, getD-append-add}
 use Rattle.drive.specs.Lists.{listed, padded}
 
 -- `search (unmapped, needs)` finds the length in what is known of the struct.
 pub unmapped : (X Y : Type 0) (f : X → Y) (l : List X) (n : ℕ) → length (map f l) ≡ n → length l ≡ n
 unmapped X Y f l n p = sym (length-map l f) ∙ p
-
-pub past-last : {X : Type 0} (l : List X) (d : X) (n i : ℕ) → length l ≡ n → n ≤ i → d ≡ getD l i d
-past-last l d n i e h = sym (List·getD-eq-default l d {n = i} (omega arith))
 
 -- ---- a row that is filled from the front, a place a turn
 
@@ -36,10 +33,6 @@ module _ {A : Type 0} (k : ℕ) (z : A) where
       ap (λ (r : List A). set r i a) (padded-split l i e h)
       ∙ set-at l z (replicate (k - (i + 1)) z) a i e
       ∙ sym (padded-grown l a i e)
-
-  -- what stands above is there already
-  pub padded-left : (l : List A) (i : ℕ) → length l ≡ i → i < k → padded k z l ≡ padded k z (l ++ (z ∷ []))
-  padded-left l i e h = padded-split l i e h ∙ sym (padded-grown l z i e)
 
 -- ---- a row of a function's values
 
@@ -66,12 +59,6 @@ module _ {A : Type 0} where
 
     pub filled-more : (i : ℕ) → i < k → set (padded k z (listed f i)) i (f i) ≡ padded k z (listed f (i + 1))
     filled-more i h = padded-more k z (listed f i) (f i) i (listed-length f i) h ∙ ap (padded k z) (listed-more f i)
-
-    pub filled-left : (i : ℕ) → i < k → f i ≡ z → padded k z (listed f i) ≡ padded k z (listed f (i + 1))
-    filled-left i h e =
-        padded-left k z (listed f i) i (listed-length f i) h
-        ∙ ap (λ (a : A). padded k z (listed f i ++ (a ∷ []))) (sym e)
-        ∙ ap (padded k z) (listed-more f i)
 
   pub listed-at : (f : ℕ → A) (n i : ℕ) (d : A) → i < n → getD (listed f n) i d ≡ f i
   unfolding listed

@@ -6,6 +6,8 @@ use Rattle.drive.specs.declared.Show.{Show}
 use Rattle.drive.specs.declared.refusal.Check.{Check}
 use Rattle.drive.specs.declared.refusal.Check.the-variants.{Refused}
 use Rattle.drive.specs.Outcomes.{Outcome, checkOutcome}
+use Rattle.theory.specs.Counts.{Accepted}
+use Rattle.theory.specs.Shows.{loadOf}
 use Rattle.verdict.specs.declared.worst.Worst.the-variants as worst
 use Rattle.verdict.specs.WorstTimes.{worstOutcome}
 use Rattle.verdict.specs.declared.Verdict.the-variants as verdict
@@ -20,7 +22,7 @@ use Rattle.spare.specs.declared.Spare.{Spare}
 use Rattle.spare.specs.declared.Spare.the-variants as spare
 use Rattle.spare.specs.Answers.{spareOutcome}
 use Rattle.promises.specs.Refusals.{Says, Only}
-use Rattle.promises.specs.Order.{Grants, ShowThen, WriteOrder}
+use Rattle.promises.specs.Order.{Grants, _when_else_, ShowThen, WriteOrder}
 use Rattle.promises.proofs.Says.{Among, says, grants-among, when-among, limits-among, show-among, file-among}
 use Rattle.promises.proofs.Order.{order}
 
@@ -30,9 +32,12 @@ check-says = says Refused checkOutcome (λ w. refl)
 spare-says : (l : List ℕ) (z : Spare) → Among l (spareOutcome z) → Says spare.Refused z l
 spare-says = says spare.Refused spareOutcome (λ w. refl)
 
--- 2, 5, 6, 7 and no more; 2, 4, 5, 6, 7, 16
+-- 2, 5, 6, 7 and no more; with 8; 2, 4, 5, 6, 7, 16
 limits-alone : (s : Show) {o : Outcome} → ShowThen s Grants o → Among (2 ∷ 5 ∷ 6 ∷ 7 ∷ []) o
 limits-alone s = let l : List ℕ = 2 ∷ 5 ∷ 6 ∷ 7 ∷ [] in show-among l tt tt tt (grants-among l) s tt
+
+eight-besides : (s : Show) {o : Outcome} → ShowThen s (8 when (Accepted (loadOf s) → ⊥) else Grants) o → Among (2 ∷ 5 ∷ 6 ∷ 7 ∷ 8 ∷ []) o
+eight-besides s = let l : List ℕ = 2 ∷ 5 ∷ 6 ∷ 7 ∷ 8 ∷ [] in show-among l tt tt tt (when-among l tt (grants-among l)) s tt
 
 writes-alone : (x : Show) (note : List ℕ) (room : ℕ) {o : Outcome} → WriteOrder x note room o → Among (2 ∷ 4 ∷ 5 ∷ 6 ∷ 7 ∷ 16 ∷ []) o
 writes-alone x note room =
@@ -62,15 +67,11 @@ only =
           check-says l _ (file-among l tt tt tt (when-among l tt (grants-among l)) f tt tt tt tt (files .copying f room)));
       reporting = λ f b r x h. (let l : List ℕ = 16 ∷ [] in check-says l _ (when-among l tt (grants-among l) (files .reporting f b r x h)));
       explaining = λ f b r x h. (let l : List ℕ = 16 ∷ [] in check-says l _ (when-among l tt (grants-among l) (files .explaining f b r x h)));
-      deciding = λ s d h.
-          says verdict.Refused verdictOutcome (λ w. refl) of-verdict _
-          (show-among of-verdict tt tt tt (when-among of-verdict tt (grants-among of-verdict)) s tt (shows .deciding s d h));
+      deciding = λ s d h. says verdict.Refused verdictOutcome (λ w. refl) of-verdict _ (eight-besides s (shows .deciding s d h));
       why = λ s r h. says reason.Refused reasonOutcome (λ w. refl) of-show r (limits-alone s (shows .why s r h));
       load = λ s. says loaded.Refused loadedOutcome (λ w. refl) of-show _ (limits-alone s (shows .load s));
       trying = λ s m t h. says answer.Refused answerOutcome (λ w. refl) of-show _ (limits-alone s (shows .trying s m t h));
-      opening = λ s o h.
-          check-says of-verdict _
-          (show-among of-verdict tt tt tt (when-among of-verdict tt (grants-among of-verdict)) s tt (shows .opening s o h));
+      opening = λ s o h. check-says of-verdict _ (eight-besides s (shows .opening s o h));
       pass = λ r d. (let l : List ℕ = 19 ∷ 11 ∷ [] in check-says l _ (when-among l tt (when-among l tt (grants-among l)) (runs .pass r d)));
       take = λ r i n.
           (let l : List ℕ = 19 ∷ 9 ∷ 12 ∷ 10 ∷ [] in

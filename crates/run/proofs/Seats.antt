@@ -1,10 +1,8 @@
 -- The places of a cycle and their sessions, in numbers that arrays of sixteen take. Assumes nothing.
 use Prim.Native.Nat.{ℕ, _≤_, _<_}
-use mathlib.Core.List.{List}
 use native.Mathlib.Omega.{arith}
-use Rattle.run.specs.declared.State.{State}
 use Rattle.run.specs.declared.Run.{Run}
-use Rattle.run.specs.Run.{playing, stateAt, seatAt, onward, putMost, withStates}
+use Rattle.run.specs.Run.{playing, stateAt, seatAt, onward, putMost}
 use Rattle.run.specs.Seats.{Seated}
 use Rattle.run.specs.Sound.{SoundRun}
 use Rattle.run.proofs.Steps.{onward-below, seat-below}
@@ -17,10 +15,6 @@ sound-seated r s l =
       place = s .cycle .turning l .place;
       seats = seat-below r s;
     }
-
--- Where the states do not matter.
-pub stored-seated : (r : Run) (l : List State) → Seated r → Seated (withStates r l)
-stored-seated r l h = record { some = h .some; place = h .place; seats = h .seats }
 
 module _ (r : Run) (h : Seated r) where
   pub onward-few : (k : ℕ) → onward r k < 16

@@ -76,10 +76,10 @@ choice-kept r c (read l p) = begun-kept r (skipped r)
 pub choose-kept : (r : Run) → Kept r (chooseOf r .run)
 choose-kept r = choice-kept r (chooseOf r) (answered r)
 
-pub idle-refused : {X : Type 0} {w : Refusal} → choice.Idle ≡ choice.Refused w → X
+idle-refused : {X : Type 0} {w : Refusal} → choice.Idle ≡ choice.Refused w → X
 idle-refused e = let z : _≡_ {A = ℕ} 0 1 = cc in absurd (let f : ⊥ = omega arith in f)
 
-pub read-refused : {X : Type 0} {i : ℕ} {w : Refusal} → choice.Read i ≡ choice.Refused w → X
+read-refused : {X : Type 0} {i : ℕ} {w : Refusal} → choice.Read i ≡ choice.Refused w → X
 read-refused e = let z : _≡_ {A = ℕ} 0 1 = cc in absurd (let f : ⊥ = omega arith in f)
 
 read-idle : {X : Type 0} {i : ℕ} → choice.Read i ≡ choice.Idle → X
