@@ -5,7 +5,7 @@ use native.Mathlib.Omega.{arith}
 use native.Mathlib.Nat.{le-of-eq, le-trans, one-mul, add-mul, mul-add, mul-assoc, mul-left-comm, mul-le-mul, mul-le-mul-left, mul-le-mul-right, mul-lt-mul-of-pos-right, mul-pos}
 use native.Mathlib.Decide.{decLt}
 use Rattle.cost.specs.declared.Cost.{Cost}
-use Rattle.cost.specs.Bound.{Modest, Cheaper, Limited, edges, worstTime, weight, spareOf, BoundLaws, fixedMost, eachMost, crossMost, countMost, worstMost}
+use Rattle.cost.specs.Bound.{Modest, Cheaper, Limited, edges, worstTime, weight, surplusOf, BoundLaws, fixedMost, eachMost, crossMost, countMost, worstMost}
 use Rattle.cost.proofs.EdgeLaws.{edges-grow, edges-merge, edges-enough, edges-few, edges-capped}
 
 -- No fewer blocks take no less.
@@ -49,13 +49,13 @@ module _ (N : ℕ) (some : 1 ≤ N) (c : Cost) (m : Modest c) where
       let paid : N * c .cross ≤ N * c .fixed = mul-le-mul-left N (m .edge) in
       omega (arith, weights n, worsts n, add-mul (N * edges N n) N (c .cross))
 
-  worst-high : (n : ℕ) → N * worstTime N c n ≤ n * weight N c + spareOf N c
+  worst-high : (n : ℕ) → N * worstTime N c n ≤ n * weight N c + surplusOf N c
   worst-high n =
       let crossed : N * edges N n * c .cross ≤ (n + (N - 1)) * c .cross = mul-le-mul-right (c .cross) (edges-few N some n) in
       omega (arith, weights n, worsts n, add-mul n (N - 1) (c .cross))
 
   -- B1 to B4: U of every modest cost has the laws.
-  pub worst-laws : BoundLaws N (weight N c) (spareOf N c) (worstTime N c)
+  pub worst-laws : BoundLaws N (weight N c) (surplusOf N c) (worstTime N c)
   worst-laws =
       record {
         some = λ n h. (let g = worst-rises 0 n h in omega arith);

@@ -2,10 +2,10 @@
 use Prim.Native.Nat.{ℕ, _+_, _*_, _≤_, _<_}
 use mathlib.Core.Path.{_≡_, refl, ap, _∙_}
 use native.Mathlib.Omega.{arith}
-use Rattle.drive.specs.declared.Layout.{Layout}
-use Rattle.drive.specs.declared.Show.{Show}
-use Rattle.drive.specs.Limits.{LayoutWithin, ShowWithin, Alike, layoutAt, sessionAt}
-use Rattle.cost.specs.Bound.{Modest, Limited, Cheaper, BoundLaws, ceil, edges, worstTime, weight, spareOf}
+use Rattle.show.specs.declared.Layout.{Layout}
+use Rattle.show.specs.declared.Show.{Show}
+use Rattle.show.specs.Limits.{LayoutWithin, ShowWithin, Alike, layoutAt, sessionAt}
+use Rattle.cost.specs.Bound.{Modest, Limited, Cheaper, BoundLaws, ceil, edges, worstTime, weight, surplusOf}
 use Rattle.cost.specs.Costs.{readCost, costOf}
 use Rattle.cost.proofs.Bound.{worst-laws}
 
@@ -50,7 +50,7 @@ module _ (s : Show) (w : ShowWithin s) (i : ℕ) (l : i < s .playing) where
   cost-limited = read-limited _ layout-within
 
   -- U of each session has the laws.
-  pub session-laws : BoundLaws (s .drive .cylinder) (weight (s .drive .cylinder) (costOf s i)) (spareOf (s .drive .cylinder) (costOf s i)) (worstTime (s .drive .cylinder) (costOf s i))
+  pub session-laws : BoundLaws (s .drive .cylinder) (weight (s .drive .cylinder) (costOf s i)) (surplusOf (s .drive .cylinder) (costOf s i)) (worstTime (s .drive .cylinder) (costOf s i))
   session-laws = worst-laws (s .drive .cylinder) (w .drive .cylinder .low) (costOf s i) cost-modest
 
 -- Shows that agree below their counts have the same costs there.

@@ -19,12 +19,12 @@ abbrev pub weight : ℕ → Cost → ℕ
 weight N c = N * c .each + c .cross
 
 -- What N U(n) has beyond n times the weight, at most.
-abbrev pub spareOf : ℕ → Cost → ℕ
-spareOf N c = N * c .fixed + (N - 1) * c .cross
+abbrev pub surplusOf : ℕ → Cost → ℕ
+surplusOf N c = N * c .fixed + (N - 1) * c .cross
 
 -- What is known of U elsewhere, but for the one function that works it out, with B5 and B6 below: B1 to B4, of a bound u that weighs w,
 -- on a drive with N blocks per cylinder.
-pub record BoundLaws (N w spare : ℕ) (u : ℕ → ℕ) : Type 0 where
+pub record BoundLaws (N w surplus : ℕ) (u : ℕ → ℕ) : Type 0 where
   -- B1: an operation takes time
   pub some : (n : ℕ) → 1 ≤ n → 1 ≤ u n
   -- B2: more blocks take longer
@@ -34,7 +34,7 @@ pub record BoundLaws (N w spare : ℕ) (u : ℕ → ℕ) : Type 0 where
   -- B4: N u(n) is n w, up to what does not depend on n
   pub weighs : 1 ≤ w
   pub low : (n : ℕ) → n * w ≤ N * u n
-  pub high : (n : ℕ) → N * u n ≤ n * w + spare
+  pub high : (n : ℕ) → N * u n ≤ n * w + surplus
 
 -- The two limits that B1 to B4 rest on: a crossing is no dearer than the fixed part, and a block takes time.
 pub record Modest (c : Cost) : Type 0 where

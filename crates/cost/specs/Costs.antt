@@ -1,8 +1,8 @@
 -- What a session's operations cost.
 use Prim.Native.Nat.{ℕ, _+_, _*_}
-use Rattle.drive.specs.declared.Layout.{Layout}
-use Rattle.drive.specs.declared.Show.{Show}
-use Rattle.drive.specs.Limits.{layoutAt, sessionAt}
+use Rattle.show.specs.declared.Layout.{Layout}
+use Rattle.show.specs.declared.Show.{Show}
+use Rattle.show.specs.Limits.{layoutAt, sessionAt}
 use Rattle.cost.specs.declared.Cost.{Cost}
 
 -- A read: longest seek and twice the rotation once, the block time for each block, the one-track seek for each edge.

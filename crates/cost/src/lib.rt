@@ -1,7 +1,7 @@
 // What an operation costs, from which U, its worst time, is made: docs/RULES.md, section 3. The laws of U stand in specs/Bound; `verdict` works it out.
 ghost use mathlib.Core.Path.{_≡_};
 ghost use Rattle.cost.specs.Costs.{readCost};
-use drive::Layout;
+use show::Layout;
 
 // What an operation costs, in µs: once, for each block, for each cylinder edge.
 pub struct Cost {

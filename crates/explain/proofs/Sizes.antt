@@ -3,11 +3,11 @@ use Prim.Native.Nat.{ℕ, _/_, _%_, _≤_}
 use mathlib.Core.List.{List}
 use native.Mathlib.Omega.{arith}
 use lib.ListN.{length, length-append}
-use Rattle.drive.specs.declared.refusal.Refusal.{Refusal}
-use Rattle.drive.specs.declared.refusal.Refusal.the-variants.{FileLength, Counts, Distances, NoteLength, DriveLimits, LayoutLimits, SessionLimits, NoSet, NoSession, TooMuch, TooLong, NotStarted, ReadUnderway, PutLimit, NegativeSlack, BufferShort, NothingUnderway, AlreadyStarted, Damaged}
+use Rattle.show.specs.declared.refusal.Refusal.{Refusal}
+use Rattle.show.specs.declared.refusal.Refusal.the-variants.{FileLength, Counts, Distances, NoteLength, DriveLimits, LayoutLimits, SessionLimits, NoSet, NoSession, TooMuch, TooLong, NotStarted, ReadUnderway, PutLimit, NegativeSlack, BufferShort, NothingUnderway, AlreadyStarted, Damaged}
 use Rattle.text.specs.Decimal.{decimal}
 use Rattle.text.specs.Lines.{refusedText}
-use Rattle.text.specs.Puts.{Room}
+use Rattle.text.specs.Puts.{FitsAt}
 use Rattle.text.proofs.Digits.{decimal-most}
 use Rattle.text.proofs.Lines.{refused-few}
 use Rattle.reason.specs.declared.Reason.{Reason}
@@ -61,8 +61,8 @@ said-most f t (unread w e) = refusal-few w
 
 -- A buffer that takes every text has room for this one.
 module _ (b : List ℕ) (l : saidMost ≤ length b) where
-  pub reason-room : (r : Reason) (t : ℕ) → Room b 0 (reasonText r t)
+  pub reason-room : (r : Reason) (t : ℕ) → FitsAt b 0 (reasonText r t)
   reason-room r t = record { fits = (let g = reason-few t r in omega arith) }
 
-  pub refusal-room : (w : Refusal) → Room b 0 (refusalText w)
+  pub refusal-room : (w : Refusal) → FitsAt b 0 (refusalText w)
   refusal-room w = record { fits = (let g = refusal-few w in omega arith) }

@@ -3,11 +3,11 @@ use mathlib.Core.Path.{_≡_, sym, ap, _∙_, subst}
 use mathlib.Core.List.{List}
 use Prim.Native.Nat.{ℕ}
 use native.Mathlib.Omega.{arith}
-use Rattle.drive.specs.declared.refusal.Refusal.{Refusal}
-use Rattle.drive.specs.declared.refusal.Check.{Check}
-use Rattle.drive.specs.declared.refusal.Check.the-variants.{Within, Refused}
-use Rattle.drive.proofs.Checks.{within-refused}
-use Rattle.drive.proofs.Shows.{within-check}
+use Rattle.show.specs.declared.refusal.Refusal.{Refusal}
+use Rattle.show.specs.declared.refusal.Check.{Check}
+use Rattle.show.specs.declared.refusal.Check.the-variants.{Within, Refused}
+use Rattle.show.proofs.Checks.{within-refused}
+use Rattle.show.proofs.Shows.{within-check}
 use Rattle.showfile.specs.declared.Reading.{Reading}
 use Rattle.showfile.specs.Answers.{readOf}
 use Rattle.showfile.proofs.Readable.{read-within}

@@ -1,8 +1,8 @@
 -- The line and the sentence for each reason, as bytes: docs/RULES.md, section 11.
 use Prim.Native.Nat.{ℕ, _/_, _%_}
 use mathlib.Core.List.{List, _++_}
-use Rattle.drive.specs.declared.refusal.Refusal.{Refusal}
-use Rattle.drive.specs.declared.refusal.Refusal.the-variants.{FileLength, Counts, Distances, NoteLength, DriveLimits, LayoutLimits, SessionLimits, NoSet, NoSession, TooMuch, TooLong, NotStarted, ReadUnderway, PutLimit, NegativeSlack, BufferShort, NothingUnderway, AlreadyStarted, Damaged}
+use Rattle.show.specs.declared.refusal.Refusal.{Refusal}
+use Rattle.show.specs.declared.refusal.Refusal.the-variants.{FileLength, Counts, Distances, NoteLength, DriveLimits, LayoutLimits, SessionLimits, NoSet, NoSession, TooMuch, TooLong, NotStarted, ReadUnderway, PutLimit, NegativeSlack, BufferShort, NothingUnderway, AlreadyStarted, Damaged}
 use Rattle.text.specs.Ascii.{ascii}
 use Rattle.text.specs.Decimal.{decimal}
 use Rattle.text.specs.Lines.{paired, refusedText}

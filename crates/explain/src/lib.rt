@@ -11,10 +11,10 @@ use crate::line::put_buffer;
 use crate::line::put_load;
 use crate::line::put_pair;
 use crate::line::put_sentence;
-use drive::refusal::Check;
-use drive::refusal::Refusal;
 use reason::Loaded;
 use reason::Reason;
+use show::refusal::Check;
+use show::refusal::Refusal;
 use showfile::Written;
 
 // No text is longer.

@@ -1,12 +1,12 @@
 // The lines and sentences, put into a lent buffer that has room for them.
 ghost use Prim.Native.Nat.{_≤_};
 ghost use lib.ListN.{length};
-ghost use Rattle.drive.specs.declared.refusal.Refusal.the-variants.{LayoutLimits, SessionLimits};
-ghost use Rattle.text.specs.Puts.{Room, Put};
+ghost use Rattle.show.specs.declared.refusal.Refusal.the-variants.{LayoutLimits, SessionLimits};
+ghost use Rattle.text.specs.Puts.{FitsAt, Put};
 ghost use Rattle.text.specs.Lines.{paired};
 ghost use Rattle.explain.specs.Text.{loadText, bufferText, sentence};
 ghost use Rattle.explain.specs.Answers.{saidMost};
-use drive::refusal::Refusal;
+use show::refusal::Refusal;
 
 // Two numbers among words.
 pub(crate) fn put_pair(
@@ -18,7 +18,7 @@ pub(crate) fn put_pair(
     b: u64,
     after: &[u8],
 ) -> usize
-    requires { ⌜ Room (now out) at (paired (now before) a (now between) b (now after)) ⌝ }
+    requires { ⌜ FitsAt (now out) at (paired (now before) a (now between) b (now after)) ⌝ }
     ensures { λ r. ⌜ Put (now (out .entry)) at (paired (now (before .entry)) a (now (between .entry)) b (now (after .entry))) (now (out .exit)) r ⌝ }
 {
     let next = text::put_numbered(out, at, before, a, between);
@@ -27,7 +27,7 @@ pub(crate) fn put_pair(
 
 // The load as a percentage, among words.
 pub(crate) fn put_load(out: &mut [u8], at: usize, before: &[u8], tenths: u64, after: &[u8]) -> usize
-    requires { ⌜ Room (now out) at (loadText (now before) tenths (now after)) ⌝ }
+    requires { ⌜ FitsAt (now out) at (loadText (now before) tenths (now after)) ⌝ }
     ensures { λ r. ⌜ Put (now (out .entry)) at (loadText (now (before .entry)) tenths (now (after .entry))) (now (out .exit)) r ⌝ }
 {
     put_pair(out, at, before, tenths / 10, b".", tenths % 10, after)
@@ -52,7 +52,7 @@ pub(crate) fn put_buffer(out: &mut [u8], session: u64, size: u64, tenths: u64) -
 
 // What a refusal of a file means.
 pub(crate) fn put_sentence(out: &mut [u8], at: usize, why: Refusal) -> usize
-    requires { ⌜ Room (now out) at (sentence why) ⌝ }
+    requires { ⌜ FitsAt (now out) at (sentence why) ⌝ }
     ensures { λ r. ⌜ Put (now (out .entry)) at (sentence why) (now (out .exit)) r ⌝ }
 {
     match why {
@@ -85,7 +85,7 @@ pub(crate) fn put_sentence(out: &mut [u8], at: usize, why: Refusal) -> usize
 
 // The sentence for 6.
 fn put_layout(out: &mut [u8], at: usize, place: u64) -> usize
-    requires { ⌜ Room (now out) at (sentence (LayoutLimits place)) ⌝ }
+    requires { ⌜ FitsAt (now out) at (sentence (LayoutLimits place)) ⌝ }
     ensures { λ r. ⌜ Put (now (out .entry)) at (sentence (LayoutLimits place)) (now (out .exit)) r ⌝ }
 {
     text::put_numbered(
@@ -99,7 +99,7 @@ fn put_layout(out: &mut [u8], at: usize, place: u64) -> usize
 
 // The sentence for 7.
 fn put_clip(out: &mut [u8], at: usize, place: u64) -> usize
-    requires { ⌜ Room (now out) at (sentence (SessionLimits place)) ⌝ }
+    requires { ⌜ FitsAt (now out) at (sentence (SessionLimits place)) ⌝ }
     ensures { λ r. ⌜ Put (now (out .entry)) at (sentence (SessionLimits place)) (now (out .exit)) r ⌝ }
 {
     text::put_numbered(

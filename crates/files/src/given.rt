@@ -2,24 +2,24 @@
 // too large for it.
 ghost use Prim.Native.Nat.{_<_, _≤_};
 ghost use lib.ListN.{length};
-use drive::Drive;
-use drive::Layout;
-use drive::Session;
-use drive::Show;
-use figures::Number;
+use parse::Number;
+use show::Drive;
+use show::Layout;
+use show::Session;
+use show::Show;
 
 // Where `mark` stands next, from `at` on; the length where it does not.
 pub(crate) fn next(text: &[u8], at: usize, mark: u8) -> usize
     requires { ⌜ at ≤ length (now text) ⌝ }
     ensures { λ r. ⌜ (at ≤ r) × (r ≤ length (now (text .entry))) ⌝ }
 {
-    let skipped = lines::find(&text[at..], mark);
+    let skipped = parse::find(&text[at..], mark);
     at + skipped
 }
 
 // Counted from 0; a tab stands between two.
 pub(crate) fn field(line: &[u8], k: usize) -> &[u8] {
-    lines::part(line, b'\t', k)
+    parse::part(line, b'\t', k)
 }
 
 // ---- bytes in hex
@@ -28,13 +28,13 @@ const NO_BYTES: usize = 1_048_576;
 
 // How many bytes the text has, put into `out`; none is `-`. `NO_BYTES` where the text is not hex in small letters.
 pub(crate) fn bytes_of(text: &[u8], out: &mut [u8]) -> usize {
-    if lines::same(text, b"-") {
+    if parse::same(text, b"-") {
         return 0;
     }
     if capital(text) {
         return NO_BYTES;
     }
-    let count = figures::unhex(text, out);
+    let count = parse::unhex(text, out);
     let Number::Is(n) = count else {
         return NO_BYTES;
     };
@@ -45,7 +45,7 @@ pub(crate) fn bytes_of(text: &[u8], out: &mut [u8]) -> usize {
 fn capital(text: &[u8]) -> bool {
     let mut b = b'A';
     while b <= b'F' {
-        if lines::find(text, b) < text.len() {
+        if parse::find(text, b) < text.len() {
             return true;
         }
         b += 1;
@@ -59,7 +59,7 @@ const NO_NUMBER: u64 = 4_294_967_296;
 
 // The number that the text is in decimal, or `NO_NUMBER`: callers take those below it.
 pub(crate) fn number_of(text: &[u8]) -> u64 {
-    let number = figures::decimal(text);
+    let number = parse::decimal(text);
     let Number::Is(n) = number else {
         return NO_NUMBER;
     };

@@ -25,10 +25,10 @@ use crate::told::reason;
 use crate::told::refusal;
 use crate::told::say;
 use crate::told::show;
-use drive::Show;
-use drive::refusal::Check;
-use drive::refusal::Refusal;
 use libc::STDIN_FILENO;
+use show::Show;
+use show::refusal::Check;
+use show::refusal::Refusal;
 
 fn main() {
     let mut text = room();
@@ -73,15 +73,15 @@ fn answer(line: &[u8], place: usize) {
 
 // False where the line is no case; then nothing is printed.
 fn case(line: &[u8], file: &mut [u8], buffer: &mut [u8]) -> bool {
-    let fields = lines::parts(line, b'\t');
+    let fields = parse::parts(line, b'\t');
     let word = field(line, 0);
     if fields == 3 {
-        if lines::same(word, b"read") {
+        if parse::same(word, b"read") {
             return case_read(line, file, buffer);
         }
     }
     if fields == 5 {
-        if lines::same(word, b"write") {
+        if parse::same(word, b"write") {
             return case_write(line, file, buffer);
         }
     }
@@ -141,7 +141,7 @@ fn unread(why: Refusal, file: &[u8], buffer: &mut [u8]) {
     refusal(why);
     no_note(showfile::note(file));
     fill(buffer);
-    let wrote = trips::copy(file, buffer);
+    let wrote = showfile_write::copy(file, buffer);
     let second = wrote.check;
     unlike(why, second);
     unless_filled(buffer);
@@ -158,7 +158,7 @@ fn no_note(note: &[u8]) {
 // The file written again, into a buffer of its length.
 fn copy(file: &[u8], buffer: &mut [u8]) {
     fill(buffer);
-    let wrote = trips::copy(file, buffer);
+    let wrote = showfile_write::copy(file, buffer);
     let check = wrote.check;
     say(b" copy");
     if let Check::Refused(why) = check {
@@ -167,7 +167,7 @@ fn copy(file: &[u8], buffer: &mut [u8]) {
     }
     say(b" ");
     number(wrote.len as u64);
-    if lines::same(buffer, file) {
+    if parse::same(buffer, file) {
         say(b" same");
         return;
     }
@@ -181,7 +181,7 @@ fn short(file: &[u8], buffer: &mut [u8]) {
     }
     fill(buffer);
     let n = buffer.len() - 1;
-    let wrote = trips::copy(file, &mut buffer[0..n]);
+    let wrote = showfile_write::copy(file, &mut buffer[0..n]);
     let check = wrote.check;
     say(b" short");
     let Check::Refused(why) = check else {
@@ -226,7 +226,7 @@ fn written(line: &[u8], note: &[u8], buffer: &mut [u8]) -> bool {
 
 fn write(given: Show, note: &[u8], buffer: &mut [u8]) {
     fill(buffer);
-    let wrote = filing::write(given, note, buffer);
+    let wrote = showfile_write::write(given, note, buffer);
     let check = wrote.check;
     if let Check::Refused(why) = check {
         unwritten(why, given, note, buffer);
@@ -241,7 +241,7 @@ fn write(given: Show, note: &[u8], buffer: &mut [u8]) {
 
 // A refused show is not written on the way to being read again either; the buffer is that after both calls.
 fn unwritten(why: Refusal, given: Show, note: &[u8], buffer: &mut [u8]) {
-    let got = trips::reread(given, note, buffer);
+    let got = showfile_write::reread(given, note, buffer);
     let second = got.check;
     refusal(why);
     say(b" ");
@@ -252,7 +252,7 @@ fn unwritten(why: Refusal, given: Show, note: &[u8], buffer: &mut [u8]) {
 // The show written into a fresh buffer and read again.
 fn reread(given: Show, note: &[u8], buffer: &mut [u8]) {
     fill(buffer);
-    let got = trips::reread(given, note, buffer);
+    let got = showfile_write::reread(given, note, buffer);
     let check = got.check;
     say(b" reread");
     if let Check::Refused(why) = check {

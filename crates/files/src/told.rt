@@ -1,9 +1,9 @@
 // What is printed, piece by piece; and what a buffer holds before a call.
-use drive::Layout;
-use drive::Session;
-use drive::Show;
-use drive::refusal::Refusal;
 use libc::STDOUT_FILENO;
+use show::Layout;
+use show::Session;
+use show::Show;
+use show::refusal::Refusal;
 
 pub(crate) fn say(text: &[u8]) {
     io::write_all(STDOUT_FILENO, text);

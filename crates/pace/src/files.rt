@@ -6,8 +6,8 @@ use crate::sums::odd;
 use crate::sums::three;
 use crate::sums::two;
 use crate::sums::wide;
-use drive::Drive;
-use drive::Show;
+use show::Drive;
+use show::Show;
 
 // From the file's end back to the lowest byte of N, and the length of the trailer that holds it.
 const BACK: usize = 16;
@@ -111,7 +111,7 @@ fn drive(given: Drive, k: u64) -> Drive {
 
 fn write(show: Show, note: &[u8]) -> u64 {
     let mut buffer = [0u8; ROOM];
-    let wrote = filing::write(show, note, &mut buffer);
+    let wrote = showfile_write::write(show, note, &mut buffer);
     let check = wrote.check;
     let n = wrote.len;
     three(number_of(check), n as u64, wide(byte_of(&buffer, n)))

@@ -9,17 +9,17 @@ mod runs;
 mod shows;
 mod sums;
 
-use drive::Show;
-use drive::refusal::Check;
-use figures::Number;
-use figures::decimal;
-use figures::unhex;
 use libc::STDIN_FILENO;
 use libc::STDOUT_FILENO;
-use lines::find;
-use lines::part;
-use lines::parts;
-use lines::same;
+use parse::Number;
+use parse::decimal;
+use parse::find;
+use parse::part;
+use parse::parts;
+use parse::same;
+use parse::unhex;
+use show::Show;
+use show::refusal::Check;
 
 const TURNS_MOST: u64 = 1_000_000_000_000;
 

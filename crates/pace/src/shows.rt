@@ -6,8 +6,8 @@ use crate::sums::last;
 use crate::sums::number_of;
 use crate::sums::three;
 use crate::sums::two;
-use drive::Show;
 use reason::Reason;
+use show::Show;
 use verdict::Verdict;
 
 // The loop alone.

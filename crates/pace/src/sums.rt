@@ -1,7 +1,7 @@
 // What a turn adds, and how turns differ.
 ghost use Prim.Native.Nat.{_<_};
-use drive::Show;
-use drive::refusal::Check;
+use show::Show;
+use show::refusal::Check;
 use std::num::wrapping_add_u32;
 use std::num::wrapping_add_u64;
 

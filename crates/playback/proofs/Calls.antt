@@ -5,11 +5,11 @@ use native.Mathlib.Decide.{decLe, decLt}
 use native.Mathlib.Omega.{arith}
 use mathlib.Core.List.{List}
 use lib.ListN.{length, set}
-use Rattle.drive.specs.declared.refusal.Refusal.{Refusal}
-use Rattle.drive.specs.declared.refusal.Refusal.the-variants as refusal
-use Rattle.drive.specs.declared.refusal.Check.{Check}
-use Rattle.drive.specs.declared.refusal.Check.the-variants.{Within, Refused}
-use Rattle.drive.proofs.Checks.{unless-kept, unless-broken, first-refused, first-within}
+use Rattle.show.specs.declared.refusal.Refusal.{Refusal}
+use Rattle.show.specs.declared.refusal.Refusal.the-variants as refusal
+use Rattle.show.specs.declared.refusal.Check.{Check}
+use Rattle.show.specs.declared.refusal.Check.the-variants.{Within, Refused}
+use Rattle.show.proofs.Checks.{unless-kept, unless-broken, first-refused, first-within}
 use Rattle.run.specs.declared.State.{State}
 use Rattle.run.specs.declared.Underway.{Underway}
 use Rattle.run.specs.declared.Underway.the-variants as underway
@@ -17,7 +17,7 @@ use Rattle.run.specs.declared.Run.{Run}
 use Rattle.run.specs.Run.{spanMost, playing, stateAt, clipAt, wholeAt, PutAt, withStates, withCycle}
 use Rattle.run.specs.Seats.{Seated}
 use Rattle.run.specs.Sound.{SoundRun}
-use Rattle.run.specs.Steps.{passed, taken, stored, landed}
+use Rattle.run.specs.Steps.{passed, drawnAt, stored, landed}
 use Rattle.run.proofs.Steps.{passed-sound, read-below}
 use Rattle.run.proofs.Seats.{sound-seated}
 use Rattle.run.proofs.Answered.{damaged-first, sound-then}
@@ -83,7 +83,7 @@ module _ (r : Run) (i n : ℕ) where
       take-handed w f = ap (λ (k : Check). record { check = k; run = r }) f ∙ moved-refused _ r _ w (take-answered ∙ f)
 
       pub take-granted : d .check ≡ Within → granted (withStates r (set (r .states) i (d .state))) ≡ takeOf r i n
-      unfolding takeOf taken
+      unfolding takeOf drawnAt
       take-granted f =
           moved-granted _ r _ _ (take-answered ∙ f)
           (ap (λ (x : State). withStates r (set (r .states) i x))

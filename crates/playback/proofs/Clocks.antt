@@ -6,7 +6,7 @@ use native.Mathlib.Nat.{mul-le-mul, min-eq-left, min-eq-right, le-refl, le-of-lt
 use native.Mathlib.Omega.{arith}
 use mathlib.Core.List.{List}
 use lib.ListN.{getD, set}
-use Rattle.drive.specs.declared.Show.{Show}
+use Rattle.show.specs.declared.Show.{Show}
 use Rattle.run.specs.declared.State.{State}
 use Rattle.run.specs.declared.Run.{Run}
 use Rattle.run.specs.Run.{spanMost, playing, noState, putMost, withStates}

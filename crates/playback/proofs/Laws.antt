@@ -5,23 +5,23 @@ use mathlib.Core.Bool.{true}
 use lib.ListN.{length}
 use native.Mathlib.Decide.{decLe, decLt}
 use native.Mathlib.Omega.{arith}
-use Rattle.drive.specs.declared.refusal.Refusal.{Refusal}
-use Rattle.drive.specs.declared.refusal.Refusal.the-variants as refusal
-use Rattle.drive.specs.declared.refusal.Check.the-variants.{Within, Refused}
-use Rattle.drive.specs.Checks.{first}
-use Rattle.drive.proofs.Checks.{within-refused, unless-within, first-left, first-right}
+use Rattle.show.specs.declared.refusal.Refusal.{Refusal}
+use Rattle.show.specs.declared.refusal.Refusal.the-variants as refusal
+use Rattle.show.specs.declared.refusal.Check.the-variants.{Within, Refused}
+use Rattle.show.specs.Checks.{first}
+use Rattle.show.proofs.Checks.{within-refused, unless-within, first-left, first-right}
 use Rattle.run.specs.declared.Underway.{Underway}
 use Rattle.run.specs.declared.Underway.the-variants as underway
 use Rattle.run.specs.declared.Run.{Run}
 use Rattle.run.specs.Run.{playing, clipAt, stateAt}
 use Rattle.run.specs.Sound.{SoundRun}
 use Rattle.run.specs.Decisions.{sound?, true?, soundCheck}
-use Rattle.run.specs.Steps.{passed, taken, landed}
-use Rattle.run.specs.Answers.{sessionCheck}
+use Rattle.run.specs.Steps.{passed, drawnAt, landed}
+use Rattle.run.specs.Answers.{presentCheck}
 use Rattle.run.specs.Laws.{Kept}
 use Rattle.run.proofs.Answered.{moved-check, moved-either, moved-back}
-use Rattle.run.proofs.Steps.{passed-sound, taken-sound, landed-sound, read-below}
-use Rattle.run.proofs.Rest.{same-kept, passed-kept, taken-kept, landed-kept, kept-then}
+use Rattle.run.proofs.Steps.{passed-sound, drawnAt-sound, landed-sound, read-below}
+use Rattle.run.proofs.Rest.{same-kept, passed-kept, drawn-kept, landed-kept, kept-then}
 use Rattle.player.specs.Answers.{earlyCheck, heldCheck, drawnOf}
 use Rattle.playback.specs.Answers.{spanCheck, passCheck, passOf, takeCheck, takeOf}
 use Rattle.playback.specs.Answers.{busyCheck, finishCheck, landedFor, finishOf}
@@ -55,10 +55,10 @@ module _ (r : Run) (i n : ℕ) where
   unfolding takeCheck
   takes e =
       let late = first (earlyCheck (r .started)) (heldCheck (stateAt r i) n) in
-      let a = first-right (soundCheck r) (first (sessionCheck r i) late) e in
-      let b = first-right (sessionCheck r i) late a in
+      let a = first-right (soundCheck r) (first (presentCheck r i) late) e in
+      let b = first-right (presentCheck r i) late a in
       record {
-        playing = unless-within (decLt i (playing r)) refusal.NoSession (first-left (sessionCheck r i) late a);
+        playing = unless-within (decLt i (playing r)) refusal.NoSession (first-left (presentCheck r i) late a);
         started = unless-within (true? (r .started)) refusal.NotStarted (first-left (earlyCheck (r .started)) (heldCheck (stateAt r i) n) b);
         held =
             unless-within (decLe n (stateAt r i .put - stateAt r i .taken)) refusal.TooMuch
@@ -68,22 +68,22 @@ module _ (r : Run) (i n : ℕ) where
   pub take-sound : playing r ≤ length (r .states) → SoundRun r → SoundRun (takeOf r i n .run)
   unfolding takeOf
   take-sound k s =
-      moved-either (takeCheck r i n) r (taken r i n) SoundRun s
-      (λ e. (let t = takes e in taken-sound r i n k s (t .playing) (t .started) (t .held)))
+      moved-either (takeCheck r i n) r (drawnAt r i n) SoundRun s
+      (λ e. (let t = takes e in drawn-sound r i n k s (t .playing) (t .started) (t .held)))
 
   pub take-kept : Kept r (takeOf r i n .run)
   unfolding takeOf
-  take-kept = moved-either (takeCheck r i n) r (taken r i n) (Kept r) (same-kept r) (λ e. taken-kept r i n (takes e .playing))
+  take-kept = moved-either (takeCheck r i n) r (drawnAt r i n) (Kept r) (same-kept r) (λ e. drawn-kept r i n (takes e .playing))
 
   pub take-refused : (w : Refusal) → takeOf r i n .check ≡ Refused w → takeOf r i n .run ≡ r
   unfolding takeOf
-  take-refused = moved-back (takeCheck r i n) r (taken r i n)
+  take-refused = moved-back (takeCheck r i n) r (drawnAt r i n)
 
   -- Of a session that plays, a take on the run is the player's.
   pub take-players :
       SoundRun r → i < playing r → takeOf r i n .check ≡ drawnOf (stateAt r i) (clipAt r i) (r .started) n .check
   unfolding takeOf
-  take-players s l = moved-check (takeCheck r i n) r (taken r i n) ∙ take-answered r i n s l _ refl
+  take-players s l = moved-check (takeCheck r i n) r (drawnAt r i n) ∙ take-answered r i n s l _ refl
 
 -- ---- finish
 

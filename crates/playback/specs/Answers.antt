@@ -1,18 +1,18 @@
 -- What each call answers: docs/RULES.md, section 9.
 use Prim.Native.Nat.{ℕ}
 use native.Mathlib.Decide.{decLe}
-use Rattle.drive.specs.declared.refusal.Refusal.the-variants as refusal
-use Rattle.drive.specs.declared.refusal.Check.{Check}
-use Rattle.drive.specs.declared.refusal.Check.the-variants.{Within, Refused}
-use Rattle.drive.specs.Checks.{unless, first}
+use Rattle.show.specs.declared.refusal.Refusal.the-variants as refusal
+use Rattle.show.specs.declared.refusal.Check.{Check}
+use Rattle.show.specs.declared.refusal.Check.the-variants.{Within, Refused}
+use Rattle.show.specs.Checks.{unless, first}
 use Rattle.run.specs.declared.Underway.{Underway}
 use Rattle.run.specs.declared.Underway.the-variants as underway
 use Rattle.run.specs.declared.Run.{Run}
 use Rattle.run.specs.Run.{spanMost, stateAt}
 use Rattle.run.specs.declared.Moved.{Moved}
 use Rattle.run.specs.Decisions.{soundCheck}
-use Rattle.run.specs.Answers.{moved, sessionCheck}
-use Rattle.run.specs.Steps.{passed, taken, landed}
+use Rattle.run.specs.Answers.{moved, presentCheck}
+use Rattle.run.specs.Steps.{passed, drawnAt, landed}
 use Rattle.player.specs.Answers.{earlyCheck, heldCheck}
 
 -- ---- pass
@@ -32,10 +32,10 @@ passOf r d = moved (passCheck r d) r (passed r d)
 
 -- 19, 9, 12, 10: the last two as the player's own take tests them
 unfoldable pub takeCheck : Run → ℕ → ℕ → Check
-takeCheck r i n = first (soundCheck r) (first (sessionCheck r i) (first (earlyCheck (r .started)) (heldCheck (stateAt r i) n)))
+takeCheck r i n = first (soundCheck r) (first (presentCheck r i) (first (earlyCheck (r .started)) (heldCheck (stateAt r i) n)))
 
 unfoldable pub takeOf : Run → ℕ → ℕ → Moved
-takeOf r i n = moved (takeCheck r i n) r (taken r i n)
+takeOf r i n = moved (takeCheck r i n) r (drawnAt r i n)
 
 -- ---- finish
 

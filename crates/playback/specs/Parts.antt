@@ -5,8 +5,8 @@ use mathlib.Core.Logic.{ite}
 use mathlib.Core.List.{List}
 use native.Mathlib.Decide.{decLe}
 use lib.ListN.{getD}
-use Rattle.drive.specs.declared.Show.{Show}
-use Rattle.drive.specs.Limits.{sessionAt}
+use Rattle.show.specs.declared.Show.{Show}
+use Rattle.show.specs.Limits.{sessionAt}
 use Rattle.run.specs.declared.State.{State}
 use Rattle.run.specs.Run.{noState, putMost}
 use Rattle.run.specs.Steps.{changed, ticked}

@@ -10,16 +10,16 @@ ghost use Rattle.playback.specs.Answers.{passOf, takeOf, finishOf};
 ghost use Rattle.playback.specs.Parts.{Clocked, clocksAfter};
 use crate::cycle::count_off;
 use crate::cycle::place_after;
-use drive::Show;
-use drive::refusal::Check;
-use drive::refusal::Refusal;
 use player::take_from;
 use run::Moved;
 use run::Run;
 use run::State;
 use run::Underway;
-use sound::Test;
-use sound::test_run;
+use run_test::Test;
+use run_test::test_run;
+use show::Show;
+use show::refusal::Check;
+use show::refusal::Refusal;
 
 // C of one session after d µs.
 fn tick(rate: u32, d: u64, state: State) -> State

@@ -3,13 +3,13 @@ use Prim.Native.Nat.{ℕ, _-_, _≤_}
 use mathlib.Core.Path.{_≡_, refl, sym, subst, _∙_}
 use mathlib.Core.Bool.{Bool, true}
 use native.Mathlib.Decide.{decLe}
-use Rattle.drive.specs.declared.Session.{Session}
-use Rattle.drive.specs.declared.refusal.Refusal.{Refusal}
-use Rattle.drive.specs.declared.refusal.Refusal.the-variants as refusal
-use Rattle.drive.specs.declared.refusal.Check.{Check}
-use Rattle.drive.specs.declared.refusal.Check.the-variants.{Within, Refused}
-use Rattle.drive.specs.Checks.{first}
-use Rattle.drive.proofs.Checks.{within-refused, unless-within, first-left, first-right}
+use Rattle.show.specs.declared.Session.{Session}
+use Rattle.show.specs.declared.refusal.Refusal.{Refusal}
+use Rattle.show.specs.declared.refusal.Refusal.the-variants as refusal
+use Rattle.show.specs.declared.refusal.Check.{Check}
+use Rattle.show.specs.declared.refusal.Check.the-variants.{Within, Refused}
+use Rattle.show.specs.Checks.{first}
+use Rattle.show.proofs.Checks.{within-refused, unless-within, first-left, first-right}
 use Rattle.run.specs.declared.State.{State}
 use Rattle.run.specs.Sound.{StateSound}
 use Rattle.run.specs.Decisions.{true?, state?}

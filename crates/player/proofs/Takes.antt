@@ -4,13 +4,13 @@ use mathlib.Core.Path.{_≡_, sym, ap, _∙_}
 use mathlib.Core.Bool.{Bool, true, false}
 use native.Mathlib.Decide.{decLe}
 use native.Mathlib.Omega.{arith}
-use Rattle.drive.specs.declared.Session.{Session}
-use Rattle.drive.specs.declared.refusal.Refusal.{Refusal}
-use Rattle.drive.specs.declared.refusal.Refusal.the-variants as refusal
-use Rattle.drive.specs.declared.refusal.Check.{Check}
-use Rattle.drive.specs.declared.refusal.Check.the-variants.{Within, Refused}
-use Rattle.drive.specs.Checks.{first}
-use Rattle.drive.proofs.Checks.{unless-kept, unless-broken, first-refused, first-within}
+use Rattle.show.specs.declared.Session.{Session}
+use Rattle.show.specs.declared.refusal.Refusal.{Refusal}
+use Rattle.show.specs.declared.refusal.Refusal.the-variants as refusal
+use Rattle.show.specs.declared.refusal.Check.{Check}
+use Rattle.show.specs.declared.refusal.Check.the-variants.{Within, Refused}
+use Rattle.show.specs.Checks.{first}
+use Rattle.show.proofs.Checks.{unless-kept, unless-broken, first-refused, first-within}
 use Rattle.run.specs.declared.State.{State}
 use Rattle.run.specs.Sound.{StateSound}
 use Rattle.run.specs.Decisions.{true?, state?}

@@ -2,11 +2,11 @@
 use Prim.Native.Nat.{ℕ, _-_}
 use mathlib.Core.Bool.{Bool}
 use native.Mathlib.Decide.{decLe}
-use Rattle.drive.specs.declared.Session.{Session}
-use Rattle.drive.specs.declared.refusal.Refusal.the-variants as refusal
-use Rattle.drive.specs.declared.refusal.Check.{Check}
-use Rattle.drive.specs.declared.refusal.Check.the-variants.{Within, Refused}
-use Rattle.drive.specs.Checks.{unless, first}
+use Rattle.show.specs.declared.Session.{Session}
+use Rattle.show.specs.declared.refusal.Refusal.the-variants as refusal
+use Rattle.show.specs.declared.refusal.Check.{Check}
+use Rattle.show.specs.declared.refusal.Check.the-variants.{Within, Refused}
+use Rattle.show.specs.Checks.{unless, first}
 use Rattle.run.specs.declared.State.{State}
 use Rattle.run.specs.Decisions.{true?, state?}
 use Rattle.run.specs.Steps.{drawn}

@@ -5,16 +5,16 @@
 //   ok P G C
 //   refused NUMBER PLACE P G C
 //   error LINE, for a line that is not that
-use drive::Session;
-use drive::refusal::Check;
-use figures::Number;
-use figures::decimal;
 use libc::STDIN_FILENO;
 use libc::STDOUT_FILENO;
-use lines::find;
-use lines::part;
-use lines::parts;
+use parse::Number;
+use parse::decimal;
+use parse::find;
+use parse::part;
+use parse::parts;
 use run::State;
+use show::Session;
+use show::refusal::Check;
 
 const NUMBERS: usize = 9;
 

@@ -8,16 +8,16 @@ use mathlib.Core.List.{List}
 use lib.IntN.{ℤ}
 use lib.ListN.{length, getD, set}
 use lib.Seq.{getD-set-same, getD-set-other}
-use Rattle.drive.specs.declared.Drive.{Drive}
-use Rattle.drive.specs.declared.Session.{Session}
-use Rattle.drive.specs.declared.refusal.Refusal.the-variants as refusal
-use Rattle.drive.specs.declared.refusal.Check.{Check}
-use Rattle.drive.specs.declared.refusal.Check.the-variants.{Within, Refused}
-use Rattle.drive.specs.Checks.{unless, first}
-use Rattle.drive.specs.Limits.{ShowWithin}
-use Rattle.drive.proofs.Checks.{unless-kept, unless-broken, unless-within, first-left}
-use Rattle.drive.proofs.Shows.{check-within, within-check, alike-check}
-use Rattle.filing.proofs.Unused.{told-same}
+use Rattle.show.specs.declared.Drive.{Drive}
+use Rattle.show.specs.declared.Session.{Session}
+use Rattle.show.specs.declared.refusal.Refusal.the-variants as refusal
+use Rattle.show.specs.declared.refusal.Check.{Check}
+use Rattle.show.specs.declared.refusal.Check.the-variants.{Within, Refused}
+use Rattle.show.specs.Checks.{unless, first}
+use Rattle.show.specs.Limits.{ShowWithin}
+use Rattle.show.proofs.Checks.{unless-kept, unless-broken, unless-within, first-left}
+use Rattle.show.proofs.Shows.{check-within, within-check, alike-check}
+use Rattle.showfile_write.proofs.Unused.{told-same}
 use Rattle.theory.specs.Counts.{Good}
 use Rattle.theory.specs.Shows.{loadOf}
 use Rattle.theory.proofs.Rounds.{good-same}
@@ -30,8 +30,8 @@ use Rattle.run.specs.declared.Run.{Run}
 use Rattle.run.specs.Run.{playing, noState, stateAt, clipAt, countAt, seatAt, wholeAt, onward, Room, RoomAt, PutAt, withStates, withCycle}
 use Rattle.run.specs.Sound.{StateSound, NamedOnce, Turning, Resting, MayRead, SoundRun}
 use Rattle.run.specs.Decisions.{sound?, soundCheck}
-use Rattle.run.specs.Answers.{moved, sessionCheck}
-use Rattle.run.specs.Steps.{ticked, tickedAt, statesAfter, passed, drawn, taken}
+use Rattle.run.specs.Answers.{moved, presentCheck}
+use Rattle.run.specs.Steps.{ticked, tickedAt, statesAfter, passed, drawn, drawnAt}
 use Rattle.run.proofs.Changed.{changed-below}
 use Rattle.run.proofs.Steps.{seat-below, read-below}
 use Rattle.spare.specs.declared.Spare.the-variants as spare
@@ -233,7 +233,7 @@ module _ (r q : Run) (a : AlikeRuns r q) where
         started = a .started;
       }
 
-  pub session-same : (i : ℕ) → sessionCheck r i ≡ sessionCheck q i
+  pub session-same : (i : ℕ) → presentCheck r i ≡ presentCheck q i
   session-same i = ap (λ (n : ℕ). unless (decLt i n) refusal.NoSession) (a .show .playing)
 
   module _ (n : Sized r) (m : Sized q) (s : SoundRun r) where
@@ -260,8 +260,8 @@ module _ (r q : Run) (a : AlikeRuns r q) where
             ∙ ticks i l
             ∙ sym (changed-below (tickedAt q d) (playing q) (q .states) i (omega arith) (omega arith))))
 
-    pub taken-alike : (i k : ℕ) → i < playing r → AlikeRuns (taken r i k) (taken q i k)
-    unfolding taken
-    taken-alike i k l =
+    pub drawn-alike : (i k : ℕ) → i < playing r → AlikeRuns (drawnAt r i k) (drawnAt q i k)
+    unfolding drawnAt
+    drawn-alike i k l =
         states-alike _ _
         (set-alike (r .states) (q .states) noState (playing r) i _ _ (few r n s) few-too (ap (drawn k) (a .states i l)) (a .states))

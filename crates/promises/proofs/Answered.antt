@@ -7,13 +7,13 @@ use native.Mathlib.Omega.{arith}
 use native.Mathlib.Nat.{le-of-lt}
 use native.Mathlib.Decide.{decLe}
 use lib.ListN.{length}
-use Rattle.drive.specs.declared.Show.{Show}
-use Rattle.drive.specs.declared.refusal.Refusal.the-variants.{NoSet, BufferShort}
-use Rattle.drive.specs.declared.refusal.Check.{Check}
-use Rattle.drive.specs.declared.refusal.Check.the-variants.{Within, Refused}
-use Rattle.drive.specs.Limits.{ShowWithin}
-use Rattle.drive.specs.Checks.{showCheck}
-use Rattle.drive.proofs.Shows.{check-within}
+use Rattle.show.specs.declared.Show.{Show}
+use Rattle.show.specs.declared.refusal.Refusal.the-variants.{NoSet, BufferShort}
+use Rattle.show.specs.declared.refusal.Check.{Check}
+use Rattle.show.specs.declared.refusal.Check.the-variants.{Within, Refused}
+use Rattle.show.specs.Limits.{ShowWithin}
+use Rattle.show.specs.Checks.{showCheck}
+use Rattle.show.proofs.Shows.{check-within}
 use Rattle.cost.specs.Bound.{countMost}
 use Rattle.theory.specs.Counts.{roundTime, Good, Accepted}
 use Rattle.theory.specs.Rounds.{asked, next, Sustains, Fits, LeastTime}

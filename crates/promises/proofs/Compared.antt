@@ -9,13 +9,13 @@ use native.Mathlib.Omega.{arith}
 use lib.Dec.{T}
 use lib.IntN.{ℤ, pos, negsuc}
 use lib.Signed.{leZ-yes}
-use Rattle.drive.specs.Decisions.{between?, counts?, drive?, layout?, session?}
-use Rattle.drive.specs.Lists.{listed}
+use Rattle.show.specs.Decisions.{between?, counts?, drive?, layout?, session?}
+use Rattle.show.specs.Lists.{listed}
 use Rattle.cost.specs.Bound.{worstTime, edges, ceil}
 use Rattle.cost.specs.Costs.{costOf}
 use Rattle.theory.specs.Sum.{sumTo}
 use Rattle.theory.specs.Floor.{floorZ}
-use Rattle.theory.specs.Spare.{less?, leastTo, slackBy, same?, before?, rank}
+use Rattle.theory.specs.Slack.{less?, leastTo, slackBy, same?, before?, rank}
 use Rattle.theory.specs.Counts.{Smallest}
 use Rattle.theory.specs.Shows.{loadOf, Easier, stoodAt, eased, left-out}
 use Rattle.verdict.specs.Answers.{setOf}

@@ -1,6 +1,6 @@
 -- The three demands, by citation. Assumes nothing.
 use mathlib.Core.Path.{sym, _∙_}
-use Rattle.drive.proofs.Checks.{tells-once}
+use Rattle.show.proofs.Checks.{tells-once}
 use Rattle.verdict.proofs.Once.{decision-once, trial-once}
 use Rattle.run.proofs.Opening.{open-once}
 use Rattle.reason.proofs.Once.{reason-once}
@@ -8,13 +8,13 @@ use Rattle.report.proofs.Texts.{text-once}
 use Rattle.report.proofs.Reports.{report-once}
 use Rattle.explain.proofs.Texts.{said-once}
 use Rattle.explain.proofs.Explained.{explain-once}
-use Rattle.embed.proofs.Once.{reported-once, decided-once, reasoned-once}
+use Rattle.chikchiro.proofs.Once.{reported-once, decided-once, reasoned-once}
 use Rattle.promises.specs.Demands.{Demands}
 use Rattle.promises.proofs.Table.{table}
 use Rattle.promises.proofs.Trips.{trips}
 use Rattle.promises.proofs.Verdict.{verdicts}
 use Rattle.promises.proofs.Lighter.{lighter-shows}
-use Rattle.promises.proofs.Spare.{spare}
+use Rattle.promises.proofs.LighterRuns.{lighter-runs}
 use Rattle.promises.proofs.Reports.{reports}
 use Rattle.promises.proofs.Reasons.{reasons}
 use Rattle.promises.proofs.Sayings.{sayings}
@@ -35,7 +35,7 @@ demands =
           record { answered = answered; numbered = numbered; only = only; order = order; runs = hands-back; buffers = buffers; empty = empty; embedded = embedded };
       second =
           record { verdicts = verdicts; runs = runs; unseen = unseen; spare = spare-time; table = table; reports = reports; reasons = reasons; sayings = sayings; trips = trips };
-      third = record { lighter = lighter-shows; spare = spare };
+      third = record { lighter = lighter-shows; lighter-runs = lighter-runs };
       once =
           record {
             equation = λ meaning x y p q. p ∙ sym q;

@@ -6,12 +6,12 @@ use mathlib.Core.Logic.{_↔_, Dec·and}
 use native.Mathlib.Decide.{decLe}
 use native.Mathlib.Omega.{arith}
 use lib.ListN.{length, length-append}
-use Rattle.drive.specs.declared.refusal.Refusal.{Refusal}
-use Rattle.drive.specs.declared.refusal.Refusal.the-variants.{NoSet, BufferShort}
-use Rattle.drive.specs.declared.refusal.Check.{Check}
-use Rattle.drive.specs.declared.refusal.Check.the-variants as check
-use Rattle.drive.specs.Refusals.{numberOf, placeOf}
-use Rattle.drive.specs.Decisions.{decided}
+use Rattle.show.specs.declared.refusal.Refusal.{Refusal}
+use Rattle.show.specs.declared.refusal.Refusal.the-variants.{NoSet, BufferShort}
+use Rattle.show.specs.declared.refusal.Check.{Check}
+use Rattle.show.specs.declared.refusal.Check.the-variants as check
+use Rattle.show.specs.Refusals.{numberOf, placeOf}
+use Rattle.show.specs.Decisions.{decided}
 use Rattle.showfile.specs.Answers.{readOf}
 use Rattle.verdict.specs.declared.Decision.{Decision}
 use Rattle.verdict.specs.declared.Verdict.{Verdict}
@@ -28,8 +28,8 @@ use Rattle.text.proofs.Lines.{two-length}
 use Rattle.theory.specs.Counts.{roundTime}
 use Rattle.report.specs.Text.{sessionLines}
 use Rattle.report.specs.Answers.{TextIs, granted, eight, unread, loadIn, textMost}
-use Rattle.embed.specs.Answers.{codeOf, verdictCode, filledBy, Slices, Enough, ReportedIs, reported, FileDecisionIs, DecidedIs, FileReasonIs, ReasonedIs, reasonCode, reasonOver}
-use Rattle.embed.specs.Answers as answers
+use Rattle.chikchiro.specs.Answers.{codeOf, verdictCode, filledBy, Slices, Enough, ReportedIs, reported, FileDecisionIs, DecidedIs, FileReasonIs, ReasonedIs, reasonCode, reasonOver}
+use Rattle.chikchiro.specs.Answers as answers
 use Rattle.promises.specs.Refusals.{Says}
 use Rattle.promises.specs.Embedded.{Embedded, codeOutcome}
 use Rattle.promises.proofs.Answered.{answered}

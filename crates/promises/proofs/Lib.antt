@@ -18,7 +18,7 @@ pub mod Reasons
 pub mod Sayings
 pub mod Refusals
 pub mod Compared
-pub mod Spare
+pub mod LighterRuns
 pub mod SpareTime
 pub mod Answered
 pub mod Alike

@@ -3,9 +3,9 @@ use Prim.Native.Nat.{ℕ, _*_, _≤_}
 use mathlib.Core.Path.{_≡_, refl, sym, ap, subst}
 use native.Mathlib.Omega.{arith}
 use lib.ListN.{length}
-use Rattle.drive.specs.declared.Drive.{Drive}
-use Rattle.drive.specs.declared.Show.{Show}
-use Rattle.drive.specs.Limits.{ShowWithin}
+use Rattle.show.specs.declared.Drive.{Drive}
+use Rattle.show.specs.declared.Show.{Show}
+use Rattle.show.specs.Limits.{ShowWithin}
 use Rattle.theory.specs.Counts.{Load, Sound, Smallest}
 use Rattle.theory.specs.Lighter.{Lighter}
 use Rattle.theory.specs.Shows.{loadOf, Lightened, left-out, without, stoodAt}

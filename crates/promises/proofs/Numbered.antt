@@ -7,9 +7,9 @@ use native.Mathlib.Omega.{arith}
 use lib.Dec.{T, leb, leb→le}
 use lib.IntN.{ℤ, pos, negsuc}
 use lib.ListN.{getD}
-use Rattle.drive.specs.declared.refusal.Told.{Told}
-use Rattle.drive.specs.declared.refusal.Refusal.{Refusal}
-use Rattle.drive.specs.declared.refusal.Refusal.the-variants.{
+use Rattle.show.specs.declared.refusal.Told.{Told}
+use Rattle.show.specs.declared.refusal.Refusal.{Refusal}
+use Rattle.show.specs.declared.refusal.Refusal.the-variants.{
   FileLength,
   Counts,
   Distances,
@@ -30,10 +30,10 @@ use Rattle.drive.specs.declared.refusal.Refusal.the-variants.{
   AlreadyStarted,
   Damaged,
 }
-use Rattle.drive.specs.declared.refusal.Check.the-variants as check
-use Rattle.drive.specs.Limits.{Between}
-use Rattle.drive.specs.Refusals.{numberOf, placeOf, toldOf}
-use Rattle.drive.specs.Outcomes.{Outcome, granted, checkOutcome}
+use Rattle.show.specs.declared.refusal.Check.the-variants as check
+use Rattle.show.specs.Limits.{Between}
+use Rattle.show.specs.Refusals.{numberOf, placeOf, toldOf}
+use Rattle.show.specs.Outcomes.{Outcome, granted, checkOutcome}
 use Rattle.verdict.specs.declared.worst.Worst.the-variants as worst
 use Rattle.verdict.specs.WorstTimes.{worstOutcome}
 use Rattle.verdict.specs.declared.Verdict.the-variants as verdict
@@ -43,8 +43,8 @@ use Rattle.reason.specs.declared.Reason.{Reason}
 use Rattle.reason.specs.declared.Reason.the-variants as reason
 use Rattle.reason.specs.declared.Loaded.the-variants as loaded
 use Rattle.reason.specs.Answers.{reasonOutcome, loadedOutcome}
-use Rattle.sound.specs.declared.Test.the-variants as test
-use Rattle.sound.specs.Answers.{testOutcome}
+use Rattle.run_test.specs.declared.Test.the-variants as test
+use Rattle.run_test.specs.Answers.{testOutcome}
 use Rattle.scheduler.specs.declared.Choice.{Choice}
 use Rattle.scheduler.specs.declared.Choice.the-variants as choice
 use Rattle.scheduler.specs.Answers.{choiceOutcome}

@@ -2,10 +2,10 @@
 use Prim.Native.Nat.{ℕ}
 use mathlib.Core.Path.{refl}
 use mathlib.Core.List.{List, [], _∷_}
-use Rattle.drive.specs.declared.Show.{Show}
-use Rattle.drive.specs.declared.refusal.Check.{Check}
-use Rattle.drive.specs.declared.refusal.Check.the-variants.{Refused}
-use Rattle.drive.specs.Outcomes.{Outcome, checkOutcome}
+use Rattle.show.specs.declared.Show.{Show}
+use Rattle.show.specs.declared.refusal.Check.{Check}
+use Rattle.show.specs.declared.refusal.Check.the-variants.{Refused}
+use Rattle.show.specs.Outcomes.{Outcome, checkOutcome}
 use Rattle.theory.specs.Counts.{Accepted}
 use Rattle.theory.specs.Shows.{loadOf}
 use Rattle.verdict.specs.declared.worst.Worst.the-variants as worst

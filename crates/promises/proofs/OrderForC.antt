@@ -4,13 +4,13 @@ use mathlib.Core.Path.{_≡_, refl, sym, subst, _∙_}
 use mathlib.Core.List.{List, []}
 use native.Mathlib.Omega.{arith}
 use lib.ListN.{length}
-use Rattle.drive.specs.declared.refusal.Refusal.{Refusal}
-use Rattle.drive.specs.declared.refusal.Check.{Check}
-use Rattle.drive.specs.declared.refusal.Check.the-variants as check
-use Rattle.drive.specs.Refusals.{numberOf, placeOf}
-use Rattle.drive.specs.Outcomes.{Outcome, granted, refusedBy}
-use Rattle.drive.proofs.Checks.{within-refused}
-use Rattle.drive.proofs.Shows.{within-check}
+use Rattle.show.specs.declared.refusal.Refusal.{Refusal}
+use Rattle.show.specs.declared.refusal.Check.{Check}
+use Rattle.show.specs.declared.refusal.Check.the-variants as check
+use Rattle.show.specs.Refusals.{numberOf, placeOf}
+use Rattle.show.specs.Outcomes.{Outcome, granted, refusedBy}
+use Rattle.show.proofs.Checks.{within-refused}
+use Rattle.show.proofs.Shows.{within-check}
 use Rattle.showfile.specs.Answers.{readOf}
 use Rattle.showfile.proofs.Readable.{read-within}
 use Rattle.theory.specs.Counts.{Accepted}
@@ -22,8 +22,8 @@ use Rattle.reason.specs.declared.Reason.{Reason}
 use Rattle.reason.specs.Answers.{ReasonIs}
 use Rattle.reason.specs.Answers as why
 use Rattle.report.specs.Answers.{loadIn}
-use Rattle.embed.specs.Answers.{codeOf, verdictCode, reasonCode, Slices, Enough, FileDecisionIs, DecidedIs, FileReasonIs, ReasonedIs}
-use Rattle.embed.specs.Answers as answers
+use Rattle.chikchiro.specs.Answers.{codeOf, verdictCode, reasonCode, Slices, Enough, FileDecisionIs, DecidedIs, FileReasonIs, ReasonedIs}
+use Rattle.chikchiro.specs.Answers as answers
 use Rattle.promises.specs.Order.{Grants, _when_else_, FileThen}
 use Rattle.promises.specs.Embedded.{codeOutcome}
 use Rattle.promises.proofs.Numbered.{numbered}

@@ -4,20 +4,20 @@ use mathlib.Core.Path.{_≡_, refl, ap, _∙_}
 use mathlib.Core.List.{List, []}
 use native.Mathlib.Omega.{arith}
 use lib.ListN.{length}
-use Rattle.drive.specs.declared.Show.{Show}
-use Rattle.drive.specs.declared.refusal.Check.{Check}
-use Rattle.drive.specs.declared.refusal.Check.the-variants.{Within}
-use Rattle.drive.specs.Decisions.{between?, counts?}
-use Rattle.drive.specs.Checks.{first, limitsCheck}
-use Rattle.drive.specs.Outcomes.{Outcome, granted, checkOutcome}
-use Rattle.drive.proofs.Checks.{first-within}
+use Rattle.show.specs.declared.Show.{Show}
+use Rattle.show.specs.declared.refusal.Check.{Check}
+use Rattle.show.specs.declared.refusal.Check.the-variants.{Within}
+use Rattle.show.specs.Decisions.{between?, counts?}
+use Rattle.show.specs.Checks.{first, limitsCheck}
+use Rattle.show.specs.Outcomes.{Outcome, granted, checkOutcome}
+use Rattle.show.proofs.Checks.{first-within}
 use Rattle.showfile.specs.declared.Written.{Written}
 use Rattle.showfile.specs.File.{fileOf, zeroed}
 use Rattle.showfile.specs.Checks.{fileLeast, fileMost, noteMost, noteLength, distanced?, trailerCheck}
 use Rattle.showfile.specs.Answers.{readCheck, readAt, readOf, shownAt}
-use Rattle.filing.specs.Answers.{roomCheck, writeCheck, writtenOf}
-use Rattle.trips.specs.Answers.{rereadOf, copyCheck, copiedOf}
-use Rattle.trips.proofs.Trip.{written-check}
+use Rattle.showfile_write.specs.Answers.{roomCheck, writeCheck, writtenOf}
+use Rattle.showfile_write.specs.Trips.{rereadOf, copyCheck, copiedOf}
+use Rattle.showfile_write.proofs.Trip.{written-check}
 use Rattle.text.specs.Told.{ToldIs, told, short}
 use Rattle.report.specs.Answers.{TextIs, textMost}
 use Rattle.explain.specs.Answers.{SaidIs, saidMost}

@@ -6,16 +6,16 @@ use native.Mathlib.Decide.{decLt, ℕ-discrete}
 use native.Mathlib.Omega.{arith}
 use lib.IntN.{ℤ, pos}
 use lib.Signed.{_<ℤ_}
-use Rattle.drive.specs.declared.refusal.Refusal.the-variants as refusal
-use Rattle.drive.specs.Checks.{unless, first}
+use Rattle.show.specs.declared.refusal.Refusal.the-variants as refusal
+use Rattle.show.specs.Checks.{unless, first}
 use Rattle.run.specs.declared.State.{State}
 use Rattle.run.specs.declared.Underway.{Underway}
 use Rattle.run.specs.declared.Underway.the-variants.{Nothing, Read}
 use Rattle.run.specs.declared.Run.{Run}
 use Rattle.run.specs.Run.{spanMost, playing, stateAt, seatAt, onward, PutAt}
 use Rattle.run.specs.Decisions.{sound?, state?, true?, false?, put?, soundCheck}
-use Rattle.run.specs.Answers.{sessionCheck, freeCheck}
-use Rattle.run.specs.Steps.{skipped, passed, taken}
+use Rattle.run.specs.Answers.{presentCheck, freeCheck}
+use Rattle.run.specs.Steps.{skipped, passed, drawnAt}
 use Rattle.run.proofs.Answered.{moved-check}
 use Rattle.run.proofs.States.{true-false}
 use Rattle.run.proofs.Steps.{nothing-read, ite-either}
@@ -28,7 +28,7 @@ use Rattle.scheduler.specs.declared.Chosen.{Chosen}
 use Rattle.scheduler.specs.Answers.{nextOf, arrived, chooseCheck, chooseOf, choiceOutcome}
 use Rattle.spare.specs.Times.{slackTime, aheadAt, running}
 use Rattle.spare.specs.Answers.{workaheadOf, slackOf, someCheck, slackCheck, startCheck, startOf}
-use Rattle.theory.specs.Spare.{less?}
+use Rattle.theory.specs.Slack.{less?}
 use Rattle.promises.specs.Order.{Grants, _when_else_, Damaged, TooMuch, TooLong, ComesTo, PastLimit, OfRuns}
 use Rattle.promises.proofs.Tells.{Tests, clear, faulty, unless-tests, unless-fails, below-tests, most-tests, tells-last, tells-then}
 use Rattle.promises.proofs.Tells.{outcome-by, test-outcome, spared-outcome, chosen-outcome}
@@ -39,7 +39,7 @@ module _ (r : Run) where
   sound-tests : Tests (Damaged r) refusal.Damaged (soundCheck r)
   sound-tests = unless-fails (sound? r)
 
-  session-tests : (i : ℕ) → Tests (playing r ≤ i) refusal.NoSession (sessionCheck r i)
+  session-tests : (i : ℕ) → Tests (playing r ≤ i) refusal.NoSession (presentCheck r i)
   session-tests i = below-tests i (playing r)
 
   some-tests : Tests (playing r ≡ 0) refusal.NoSession (someCheck r)
@@ -120,7 +120,7 @@ order-of-runs =
           rw (outcome-by (moved-check (passCheck r d) r (passed r d)))
           (tells-then _ _ (sound-tests r) refl (λ e. tells-last _ (span-tests d) refl (λ e. refl)));
       take = λ r i n.
-          rw (outcome-by (moved-check (takeCheck r i n) r (taken r i n)))
+          rw (outcome-by (moved-check (takeCheck r i n) r (drawnAt r i n)))
           (tells-then _ _ (sound-tests r) refl
           (λ e.
           tells-then _ _ (session-tests r i) refl
@@ -137,7 +137,7 @@ order-of-runs =
           rw (chosen-outcome (chooseCheck r) r)
           (tells-then _ _ (sound-tests r) refl (λ e. tells-last _ (free-tests (r .underway)) refl (λ e. next-tells r)));
       workahead = λ r i.
-          rw (spared-outcome (first (soundCheck r) (sessionCheck r i)) (aheadAt r i) r)
+          rw (spared-outcome (first (soundCheck r) (presentCheck r i)) (aheadAt r i) r)
           (tells-then _ _ (sound-tests r) refl (λ e. tells-last _ (session-tests r i) refl (λ e. refl)));
       slack = λ r.
           rw (spared-outcome (first (soundCheck r) (someCheck r)) (slackTime r) r)

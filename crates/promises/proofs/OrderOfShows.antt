@@ -4,18 +4,18 @@ use mathlib.Core.Path.{_≡_, refl, sym, ap, subst, _∙_}
 use mathlib.Core.List.{List, [], _∷_}
 use native.Mathlib.Decide.{decLt}
 use lib.IntN.{pos}
-use Rattle.drive.specs.declared.Show.{Show}
-use Rattle.drive.specs.declared.refusal.Refusal.{Refusal}
-use Rattle.drive.specs.declared.refusal.Refusal.the-variants as refusal
-use Rattle.drive.specs.declared.refusal.Check.{Check}
-use Rattle.drive.specs.declared.refusal.Check.the-variants.{Within, Refused}
-use Rattle.drive.specs.Limits.{LaidWithin, PlayingWithin, ShowWithin, layoutAt, sessionAt}
-use Rattle.drive.specs.Decisions.{counts?, drive?, layout?, session?}
-use Rattle.drive.specs.Checks.{unless, first, firstBelow, limitsCheck, showCheck, layoutsCheck, sessionsCheck}
-use Rattle.drive.specs.Outcomes.{Outcome, granted, refusedBy, checkOutcome}
-use Rattle.drive.proofs.Checks.{within-refused, first-within}
-use Rattle.drive.proofs.Rows.{row-within, row-kept, row-lowest}
-use Rattle.drive.proofs.Shows.{within-check}
+use Rattle.show.specs.declared.Show.{Show}
+use Rattle.show.specs.declared.refusal.Refusal.{Refusal}
+use Rattle.show.specs.declared.refusal.Refusal.the-variants as refusal
+use Rattle.show.specs.declared.refusal.Check.{Check}
+use Rattle.show.specs.declared.refusal.Check.the-variants.{Within, Refused}
+use Rattle.show.specs.Limits.{LaidWithin, PlayingWithin, ShowWithin, layoutAt, sessionAt}
+use Rattle.show.specs.Decisions.{counts?, drive?, layout?, session?}
+use Rattle.show.specs.Checks.{unless, first, firstBelow, limitsCheck, showCheck, layoutsCheck, sessionsCheck}
+use Rattle.show.specs.Outcomes.{Outcome, granted, refusedBy, checkOutcome}
+use Rattle.show.proofs.Checks.{within-refused, first-within}
+use Rattle.show.proofs.Rows.{row-within, row-kept, row-lowest}
+use Rattle.show.proofs.Shows.{within-check}
 use Rattle.cost.specs.Bound.{worstTime}
 use Rattle.cost.specs.Costs.{costOf}
 use Rattle.verdict.specs.WorstTimes.{worstOf}

@@ -7,17 +7,17 @@ use native.Mathlib.Omega.{arith}
 use lib.Dec.{lit<}
 use Rattle.text.specs.Decimal.{decimal}
 use Rattle.text.proofs.Digits.{decimal-last, decimal-more}
-use Rattle.figures.specs.declared.Number.the-variants.{Is}
-use Rattle.figures.specs.Numbers.{numberOf}
-use Rattle.figures.proofs.Laws.{digit-is, number-one, number-more}
-use Rattle.figures.proofs.Values.{longer-fits}
+use Rattle.parse.specs.declared.Number.the-variants.{Is}
+use Rattle.parse.specs.Numbers.{decimalOf}
+use Rattle.parse.proofs.NumberLaws.{digit-is, number-one, number-more}
+use Rattle.parse.proofs.Values.{longer-fits}
 
 -- by induction on a number above it
-below : (m n : ℕ) → n < m → n < 2 ^ 64 → numberOf (decimal n) ≡ Is n
+below : (m n : ℕ) → n < m → n < 2 ^ 64 → decimalOf (decimal n) ≡ Is n
 below zero n l h = absurd (let f : ⊥ = omega arith in f)
 below (suc m) n l h = from (decLt n 10) (below m (n / 10))
   where
-    from : Dec (n < 10) → (n / 10 < m → n / 10 < 2 ^ 64 → numberOf (decimal (n / 10)) ≡ Is (n / 10)) → numberOf (decimal n) ≡ Is n
+    from : Dec (n < 10) → (n / 10 < m → n / 10 < 2 ^ 64 → decimalOf (decimal (n / 10)) ≡ Is (n / 10)) → decimalOf (decimal n) ≡ Is n
     from (yes s) i = rw (decimal-last n s) (number-one n s)
     from (no s) i =
         let q : n % 10 < 10 = mod-lt n {m = 10} (lit< tt) in
@@ -27,5 +27,5 @@ below (suc m) n l h = from (decLt n 10) (below m (n / 10))
         ∙ sym (longer-fits (n / 10) _ (n % 10) (digit-is (n % 10) q) (omega arith))
         ∙ ap Is e)
 
-pub read-back : (n : ℕ) → n < 2 ^ 64 → numberOf (decimal n) ≡ Is n
+pub read-back : (n : ℕ) → n < 2 ^ 64 → decimalOf (decimal n) ≡ Is n
 read-back n h = below (suc n) n (omega arith) h

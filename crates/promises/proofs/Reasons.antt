@@ -6,13 +6,13 @@ use mathlib.Core.Logic.{_⊎_, inl, inr, _↔_, ite, if-pos, if-neg}
 use native.Mathlib.Omega.{arith}
 use native.Mathlib.Nat.{le-refl, mul-comm, mul-assoc}
 use native.Mathlib.Decide.{decLt, ℕ-discrete}
-use Rattle.drive.specs.declared.Show.{Show}
-use Rattle.drive.specs.declared.refusal.Refusal.{Refusal}
-use Rattle.drive.specs.declared.refusal.Refusal.the-variants.{NoSet}
-use Rattle.drive.specs.declared.refusal.Check.the-variants as check
-use Rattle.drive.specs.Limits.{ShowWithin, bufferMost}
-use Rattle.drive.specs.Checks.{showCheck}
-use Rattle.drive.proofs.Shows.{within-check}
+use Rattle.show.specs.declared.Show.{Show}
+use Rattle.show.specs.declared.refusal.Refusal.{Refusal}
+use Rattle.show.specs.declared.refusal.Refusal.the-variants.{NoSet}
+use Rattle.show.specs.declared.refusal.Check.the-variants as check
+use Rattle.show.specs.Limits.{ShowWithin, bufferMost}
+use Rattle.show.specs.Checks.{showCheck}
+use Rattle.show.proofs.Shows.{within-check}
 use Rattle.cost.specs.Costs.{costOf}
 use Rattle.theory.specs.Counts.{needed, unit, Accepted, wholeLoad}
 use Rattle.theory.specs.Reasons.{NeverKeepsUp, Beyond, TooSmall, tenths}

@@ -4,19 +4,19 @@ use mathlib.Core.Path.{_≡_, refl, sym, ap, _∙_}
 use mathlib.Core.List.{List}
 use native.Mathlib.Omega.{arith}
 use lib.ListN.{length, take, drop}
-use Rattle.drive.specs.declared.Show.{Show}
-use Rattle.drive.specs.declared.refusal.Refusal.{Refusal}
-use Rattle.drive.specs.declared.refusal.Check.{Check}
-use Rattle.drive.specs.declared.refusal.Check.the-variants.{Within, Refused}
-use Rattle.drive.specs.Limits.{noShow}
-use Rattle.drive.proofs.Checks.{within-refused}
+use Rattle.show.specs.declared.Show.{Show}
+use Rattle.show.specs.declared.refusal.Refusal.{Refusal}
+use Rattle.show.specs.declared.refusal.Check.{Check}
+use Rattle.show.specs.declared.refusal.Check.the-variants.{Within, Refused}
+use Rattle.show.specs.Limits.{noShow}
+use Rattle.show.proofs.Checks.{within-refused}
 use Rattle.showfile.specs.declared.Reading.{Reading}
 use Rattle.showfile.specs.declared.Written.{Written}
 use Rattle.showfile.specs.File.{trailerOf, fileOf, zeroed}
 use Rattle.showfile.specs.Checks.{noteLength}
 use Rattle.showfile.specs.Answers.{reading, readCheck, readAt, readOf, shownAt, written, writtenOver}
-use Rattle.filing.specs.Answers.{writeCheck, writtenOf, bufferOf}
-use Rattle.trips.specs.Answers.{rereadOf, copyCheck, copiedOf, copyOf}
+use Rattle.showfile_write.specs.Answers.{writeCheck, writtenOf, bufferOf}
+use Rattle.showfile_write.specs.Trips.{rereadOf, copyCheck, copiedOf, copyOf}
 use Rattle.text.specs.Told.{ToldIs, told, short}
 use Rattle.text.proofs.Puts.{no-room}
 use Rattle.report.specs.Answers.{TextIs, textMost}
@@ -27,7 +27,7 @@ use Rattle.verdict.specs.declared.Verdict.the-variants as verdict
 use Rattle.verdict.specs.declared.Answer.the-variants as answer
 use Rattle.verdict.specs.Answers.{DecisionIs, accepted, no-set, outside, refusedFor, TrialIs, holds, fails, untried, untriedFor}
 use Rattle.verdict.proofs.Decisions.{accepted-refused}
-use Rattle.trips.proofs.Trip.{written-check}
+use Rattle.showfile_write.proofs.Trip.{written-check}
 use Rattle.run.specs.declared.Opened.{Opened}
 use Rattle.run.specs.Opening.{OpenIs, openedBy, noRun}
 use Rattle.promises.specs.Refusals.{Buffers, Empty}

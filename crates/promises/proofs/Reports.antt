@@ -5,15 +5,15 @@ use mathlib.Core.List.{List, []}
 use native.Mathlib.Omega.{arith}
 use native.Mathlib.Decide.{decLt}
 use lib.ListN.{length, replicate}
-use Rattle.drive.specs.declared.Show.{Show}
-use Rattle.drive.specs.declared.refusal.Refusal.{Refusal}
-use Rattle.drive.specs.declared.refusal.Refusal.the-variants.{NoSet}
-use Rattle.drive.specs.declared.refusal.Check.the-variants.{Within}
-use Rattle.drive.specs.Limits.{ShowWithin}
-use Rattle.drive.specs.Decisions.{counts?, drive?, layout?, session?}
-use Rattle.drive.specs.Checks.{showCheck, firstBelow}
-use Rattle.drive.specs.Lists.{listed, padded}
-use Rattle.drive.proofs.Shows.{check-within}
+use Rattle.show.specs.declared.Show.{Show}
+use Rattle.show.specs.declared.refusal.Refusal.{Refusal}
+use Rattle.show.specs.declared.refusal.Refusal.the-variants.{NoSet}
+use Rattle.show.specs.declared.refusal.Check.the-variants.{Within}
+use Rattle.show.specs.Limits.{ShowWithin}
+use Rattle.show.specs.Decisions.{counts?, drive?, layout?, session?}
+use Rattle.show.specs.Checks.{showCheck, firstBelow}
+use Rattle.show.specs.Lists.{listed, padded}
+use Rattle.show.proofs.Shows.{check-within}
 use Rattle.cost.specs.Bound.{worstTime, edges, ceil}
 use Rattle.cost.specs.Costs.{costOf}
 use Rattle.showfile.specs.Bytes.{wordBytes, halfBytes, fourBytes, rowBytes}
@@ -21,7 +21,7 @@ use Rattle.showfile.specs.File.{layoutBytes, sessionBytes, trailerBytes, traile
 use Rattle.showfile.specs.Checks.{noteMost}
 use Rattle.showfile.specs.declared.Reading.{Reading}
 use Rattle.showfile.specs.Answers.{reading, readOf}
-use Rattle.trips.proofs.Trip.{file-read}
+use Rattle.showfile_write.proofs.Trip.{file-read}
 use Rattle.theory.specs.Sum.{sumTo}
 use Rattle.theory.specs.Shows.{loadOf}
 use Rattle.verdict.specs.declared.Decision.{Decision}

@@ -7,12 +7,12 @@ use native.Mathlib.Omega.{arith}
 use lib.IntN.{ℤ}
 use lib.ListN.{length, getD, length-replicate}
 use lib.Signed.{_≤ℤ_}
-use Rattle.drive.specs.declared.Show.{Show}
-use Rattle.drive.specs.declared.refusal.Check.{Check}
-use Rattle.drive.specs.declared.refusal.Check.the-variants.{Within, Refused}
+use Rattle.show.specs.declared.Show.{Show}
+use Rattle.show.specs.declared.refusal.Check.{Check}
+use Rattle.show.specs.declared.refusal.Check.the-variants.{Within, Refused}
 use Rattle.theory.specs.Counts.{Smallest}
 use Rattle.theory.specs.Shows.{loadOf}
-use Rattle.theory.specs.Spare.{slackBy}
+use Rattle.theory.specs.Slack.{slackBy}
 use Rattle.verdict.specs.Answers.{setOf}
 use Rattle.verdict.proofs.Sets.{row-smallest}
 use Rattle.run.specs.declared.State.{State}

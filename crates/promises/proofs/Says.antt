@@ -6,14 +6,14 @@ use mathlib.Core.List.{List, [], _∷_}
 use mathlib.Core.Logic.{inl, inr}
 use native.Mathlib.Omega.{arith}
 use lib.Dec.{T, eqb, eqb→eq}
-use Rattle.drive.specs.declared.Show.{Show}
-use Rattle.drive.specs.declared.refusal.Refusal.{Refusal}
-use Rattle.drive.specs.declared.refusal.Check.the-variants.{Refused}
-use Rattle.drive.specs.Limits.{layoutAt, sessionAt}
-use Rattle.drive.specs.Decisions.{layout?, session?}
-use Rattle.drive.specs.Refusals.{numberOf}
-use Rattle.drive.specs.Outcomes.{Outcome, refusedBy}
-use Rattle.drive.proofs.Checks.{within-refused}
+use Rattle.show.specs.declared.Show.{Show}
+use Rattle.show.specs.declared.refusal.Refusal.{Refusal}
+use Rattle.show.specs.declared.refusal.Check.the-variants.{Refused}
+use Rattle.show.specs.Limits.{layoutAt, sessionAt}
+use Rattle.show.specs.Decisions.{layout?, session?}
+use Rattle.show.specs.Refusals.{numberOf}
+use Rattle.show.specs.Outcomes.{Outcome, refusedBy}
+use Rattle.show.proofs.Checks.{within-refused}
 use Rattle.verdict.specs.declared.Verdict.{Verdict}
 use Rattle.verdict.specs.declared.Verdict.the-variants as verdict
 use Rattle.verdict.specs.declared.Answer.the-variants as answer

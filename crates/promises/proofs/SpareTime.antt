@@ -9,15 +9,15 @@ use native.Mathlib.Decide.{decLt, ℕ-discrete}
 use lib.IntN.{ℤ, pos}
 use lib.ListN.{length, getD}
 use lib.Signed.{_≤ℤ_, clashℤ}
-use Rattle.drive.specs.declared.refusal.Refusal.{Refusal}
-use Rattle.drive.specs.declared.refusal.Refusal.the-variants.{Damaged}
-use Rattle.drive.specs.declared.refusal.Check.{Check}
-use Rattle.drive.specs.declared.refusal.Check.the-variants.{Within, Refused}
+use Rattle.show.specs.declared.refusal.Refusal.{Refusal}
+use Rattle.show.specs.declared.refusal.Refusal.the-variants.{Damaged}
+use Rattle.show.specs.declared.refusal.Check.{Check}
+use Rattle.show.specs.declared.refusal.Check.the-variants.{Within, Refused}
 use Rattle.theory.specs.Floor.{Floors}
-use Rattle.theory.specs.Spare.{less?, spareBy, slackBy, Before, rank}
+use Rattle.theory.specs.Slack.{less?, spareBy, slackBy, Before, rank}
 use Rattle.theory.proofs.Integers.{not-less, ≤ℤ-antisymm}
 use Rattle.theory.proofs.Floor.{floor-floors}
-use Rattle.theory.proofs.Spare.{attained, slack-least, rank-below, rank-rises, rank-first, rank-apart}
+use Rattle.theory.proofs.Slack.{attained, slack-least, rank-below, rank-rises, rank-first, rank-apart}
 use Rattle.run.specs.declared.Underway.the-variants.{Nothing}
 use Rattle.run.specs.declared.Run.{Run}
 use Rattle.run.specs.Run.{playing, clipAt, seatAt}

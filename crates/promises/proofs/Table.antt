@@ -9,15 +9,15 @@ use native.Mathlib.Decide.{decLt}
 use lib.ListN.{replicate, List·getD-append}
 use lib.Seq.{getD-take}
 use lib.Dec.{T, leb, ltb, eqb, leb→le, ltb→lt, eqb→eq}
-use Rattle.drive.specs.declared.Session.{Session}
-use Rattle.drive.specs.declared.Show.{Show}
-use Rattle.drive.specs.declared.refusal.Check.the-variants.{Within}
-use Rattle.drive.specs.Limits.{Between, ShowWithin, LaidWithin, bufferMost, sessionAt, noSession}
-use Rattle.drive.specs.Decisions.{counts?, drive?, layout?, session?}
-use Rattle.drive.specs.Checks.{showCheck, firstBelow}
-use Rattle.drive.specs.Lists.{listed, padded}
-use Rattle.drive.proofs.Lists.{listed-length, listed-at}
-use Rattle.drive.proofs.Shows.{check-within}
+use Rattle.show.specs.declared.Session.{Session}
+use Rattle.show.specs.declared.Show.{Show}
+use Rattle.show.specs.declared.refusal.Check.the-variants.{Within}
+use Rattle.show.specs.Limits.{Between, ShowWithin, LaidWithin, bufferMost, sessionAt, noSession}
+use Rattle.show.specs.Decisions.{counts?, drive?, layout?, session?}
+use Rattle.show.specs.Checks.{showCheck, firstBelow}
+use Rattle.show.specs.Lists.{listed, padded}
+use Rattle.show.proofs.Lists.{listed-length, listed-at}
+use Rattle.show.proofs.Shows.{check-within}
 use Rattle.cost.specs.Bound.{worstTime, edges, ceil}
 use Rattle.cost.specs.Costs.{costOf}
 use Rattle.verdict.specs.WorstTimes.{worstOf}

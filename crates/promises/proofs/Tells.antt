@@ -6,14 +6,14 @@ use mathlib.Core.Logic.{ite}
 use native.Mathlib.Decide.{decLe, decLt}
 use native.Mathlib.Omega.{arith}
 use lib.IntN.{ℤ, pos}
-use Rattle.drive.specs.declared.Show.{Show}
-use Rattle.drive.specs.declared.refusal.Refusal.{Refusal}
-use Rattle.drive.specs.declared.refusal.Refusal.the-variants as refusal
-use Rattle.drive.specs.declared.refusal.Check.{Check}
-use Rattle.drive.specs.declared.refusal.Check.the-variants.{Within, Refused}
-use Rattle.drive.specs.Outcomes.{Outcome, granted, refusedBy, checkOutcome}
-use Rattle.drive.specs.Checks.{unless, first}
-use Rattle.verdict.specs.WorstTimes.{answered, worstOutcome}
+use Rattle.show.specs.declared.Show.{Show}
+use Rattle.show.specs.declared.refusal.Refusal.{Refusal}
+use Rattle.show.specs.declared.refusal.Refusal.the-variants as refusal
+use Rattle.show.specs.declared.refusal.Check.{Check}
+use Rattle.show.specs.declared.refusal.Check.the-variants.{Within, Refused}
+use Rattle.show.specs.Outcomes.{Outcome, granted, refusedBy, checkOutcome}
+use Rattle.show.specs.Checks.{unless, first}
+use Rattle.verdict.specs.WorstTimes.{worstAnswer, worstOutcome}
 use Rattle.verdict.specs.declared.Verdict.{Verdict}
 use Rattle.verdict.specs.declared.Verdict.the-variants as verdict
 use Rattle.verdict.specs.Answers.{verdictOutcome}
@@ -21,8 +21,8 @@ use Rattle.reason.specs.Answers as reason
 use Rattle.reason.specs.Answers.{loadedOutcome}
 use Rattle.run.specs.declared.Run.{Run}
 use Rattle.run.specs.Opening.{openedBy}
-use Rattle.sound.specs.declared.Test.the-variants as test
-use Rattle.sound.specs.Answers.{testOutcome}
+use Rattle.run_test.specs.declared.Test.the-variants as test
+use Rattle.run_test.specs.Answers.{testOutcome}
 use Rattle.scheduler.specs.Answers.{nextOf, chosenBy, choiceOutcome}
 use Rattle.spare.specs.Answers.{spared, spareOutcome}
 use Rattle.promises.specs.Order.{refusedWith, _when_else_}
@@ -81,11 +81,11 @@ check-outcome (Refused w) = refl
 pub outcome-by : {c k : Check} → c ≡ k → checkOutcome c ≡ after k (granted [])
 outcome-by {k = k} e = ap checkOutcome e ∙ check-outcome k
 
-pub worst-outcome : (k : Check) (t : ℕ) → worstOutcome (answered k t) ≡ after k (granted (pos t ∷ []))
+pub worst-outcome : (k : Check) (t : ℕ) → worstOutcome (worstAnswer k t) ≡ after k (granted (pos t ∷ []))
 worst-outcome Within t = refl
 worst-outcome (Refused w) t = refl
 
-pub loaded-outcome : (k : Check) (t : ℕ) → loadedOutcome (reason.answered k t) ≡ after k (granted (pos t ∷ []))
+pub loaded-outcome : (k : Check) (t : ℕ) → loadedOutcome (reason.loadAnswer k t) ≡ after k (granted (pos t ∷ []))
 loaded-outcome Within t = refl
 loaded-outcome (Refused w) t = refl
 

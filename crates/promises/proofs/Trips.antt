@@ -4,8 +4,8 @@ use mathlib.Core.Path.{ap}
 use native.Mathlib.Omega.{arith}
 use lib.ListN.{length}
 use Rattle.showfile.specs.declared.Reading.{Reading}
-use Rattle.trips.proofs.Parts.{zeroed-alike}
-use Rattle.trips.proofs.Trip.{file-read, note-read, file-written}
+use Rattle.showfile_write.proofs.Parts.{zeroed-alike}
+use Rattle.showfile_write.proofs.Trip.{file-read, note-read, file-written}
 use Rattle.promises.specs.Files.{Trips}
 
 pub trips : Trips

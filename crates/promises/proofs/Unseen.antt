@@ -8,24 +8,24 @@ use native.Mathlib.Decide.{decLe, decLt, ℕ-discrete}
 use mathlib.Core.List.{List}
 use lib.IntN.{ℤ, pos}
 use lib.ListN.{length, getD}
-use Rattle.drive.specs.declared.Drive.{Drive}
-use Rattle.drive.specs.declared.Show.{Show}
-use Rattle.drive.specs.declared.refusal.Refusal.the-variants as refusal
-use Rattle.drive.specs.declared.refusal.Check.{Check}
-use Rattle.drive.specs.declared.refusal.Check.the-variants.{Within, Refused}
-use Rattle.drive.specs.Checks.{unless, first}
-use Rattle.drive.specs.Limits.{Alike}
-use Rattle.drive.proofs.Checks.{unless-within, first-left, first-right}
-use Rattle.drive.proofs.Shows.{alike-check}
+use Rattle.show.specs.declared.Drive.{Drive}
+use Rattle.show.specs.declared.Show.{Show}
+use Rattle.show.specs.declared.refusal.Refusal.the-variants as refusal
+use Rattle.show.specs.declared.refusal.Check.{Check}
+use Rattle.show.specs.declared.refusal.Check.the-variants.{Within, Refused}
+use Rattle.show.specs.Checks.{unless, first}
+use Rattle.show.specs.Limits.{Alike}
+use Rattle.show.proofs.Checks.{unless-within, first-left, first-right}
+use Rattle.show.proofs.Shows.{alike-check}
 use Rattle.cost.specs.declared.Cost.{Cost}
 use Rattle.cost.specs.Bound.{worstTime}
 use Rattle.cost.specs.Costs.{costOf}
 use Rattle.cost.proofs.Costs.{alike-cost}
 use Rattle.verdict.proofs.WorstTimes.{alike-worst}
-use Rattle.filing.proofs.Unused.{written-same, buffer-same}
-use Rattle.trips.proofs.Unused.{reread-same}
-use Rattle.theory.specs.Spare.{less?, rank, slack}
-use Rattle.theory.proofs.Spare.{slack-same, rank-same}
+use Rattle.showfile_write.proofs.Unused.{written-same, buffer-same}
+use Rattle.showfile_write.proofs.UnusedAgain.{reread-same}
+use Rattle.theory.specs.Slack.{less?, rank, slack}
+use Rattle.theory.proofs.Slack.{slack-same, rank-same}
 use Rattle.verdict.specs.declared.Decision.{Decision}
 use Rattle.verdict.specs.declared.Verdict.{Verdict}
 use Rattle.verdict.specs.declared.Verdict.the-variants as verdict
@@ -40,8 +40,8 @@ use Rattle.run.specs.Sound.{SoundRun}
 use Rattle.run.specs.Decisions.{false?, sound?, room?, put?, soundCheck}
 use Rattle.run.specs.declared.Opened.{Opened}
 use Rattle.run.specs.Opening.{OpenIs, openedBy, firstRun, tableOrder, noRun}
-use Rattle.run.specs.Answers.{sessionCheck, freeCheck}
-use Rattle.run.specs.Steps.{passed, taken, idled, firstFrom, skipped, leftAfter, begun}
+use Rattle.run.specs.Answers.{presentCheck, freeCheck}
+use Rattle.run.specs.Steps.{passed, drawnAt, idled, firstFrom, skipped, leftAfter, begun}
 use Rattle.run.specs.Steps.{filled, stored, counted, landed}
 use Rattle.run.proofs.Rest.{passed-kept}
 use Rattle.run.proofs.Steps.{seat-below, read-below, onward-below, passed-sound}
@@ -57,7 +57,7 @@ use Rattle.promises.specs.Runs.{Sized}
 use Rattle.promises.specs.Unseen.{AlikeRuns, SameMoved, SameChosen, SameSpared, SameOpened, Unseen}
 use Rattle.promises.proofs.Runs.{few}
 use Rattle.promises.proofs.Alike.{same-runs, back, room-alike, put-alike, onward-alike, whole-alike, still-sound, sound-same, first-same, moved-same}
-use Rattle.promises.proofs.Alike.{spared-same, sound-passed, set-alike, states-alike, cycle-alike, session-same, few-too, passed-alike, taken-alike}
+use Rattle.promises.proofs.Alike.{spared-same, sound-passed, set-alike, states-alike, cycle-alike, session-same, few-too, passed-alike, drawn-alike}
 
 -- ---- pass and take
 
@@ -73,7 +73,7 @@ module _ (r q : Run) (n : Sized r) (m : Sized q) (a : AlikeRuns r q) where
   unfolding takeCheck
   take-checks i k =
       first-same (soundCheck r) (soundCheck q) (sound-same r q a)
-      (λ e. first-same (sessionCheck r i) (sessionCheck q i) (session-same r q a i)
+      (λ e. first-same (presentCheck r i) (presentCheck q i) (session-same r q a i)
       (λ f.
       (let l = unless-within (decLt i (playing r)) refusal.NoSession f in
       ap₂ (λ (b : Bool) (t : State). first (earlyCheck b) (heldCheck t k)) (a .started) (a .states i l))))
@@ -81,13 +81,13 @@ module _ (r q : Run) (n : Sized r) (m : Sized q) (a : AlikeRuns r q) where
   take-same : (i k : ℕ) → SameMoved (takeOf r i k) (takeOf q i k)
   unfolding takeOf takeCheck
   take-same i k =
-      moved-same (takeCheck r i k) (takeCheck q i k) r q (taken r i k) (taken q i k) (take-checks i k) a granted
+      moved-same (takeCheck r i k) (takeCheck q i k) r q (drawnAt r i k) (drawnAt q i k) (take-checks i k) a granted
     where
-      granted : takeCheck r i k ≡ Within → AlikeRuns (taken r i k) (taken q i k)
+      granted : takeCheck r i k ≡ Within → AlikeRuns (drawnAt r i k) (drawnAt q i k)
       granted e =
           let late = first (earlyCheck (r .started)) (heldCheck (stateAt r i) k) in
-          let f = first-left (sessionCheck r i) late (first-right (soundCheck r) (first (sessionCheck r i) late) e) in
-          taken-alike r q a n m (sound-passed r (first (sessionCheck r i) late) e) i k
+          let f = first-left (presentCheck r i) late (first-right (soundCheck r) (first (presentCheck r i) late) e) in
+          drawn-alike r q a n m (sound-passed r (first (presentCheck r i) late) e) i k
           (unless-within (decLt i (playing r)) refusal.NoSession f)
 
 -- ---- workahead
@@ -98,11 +98,11 @@ ahead-alike r q a i l = ap₂ aheadOf (a .show .sessions i l) (a .states i l)
 workahead-same : (r q : Run) (i : ℕ) → AlikeRuns r q → SameSpared (workaheadOf r i) (workaheadOf q i)
 unfolding workaheadOf
 workahead-same r q i a =
-    spared-same (first (soundCheck r) (sessionCheck r i)) (first (soundCheck q) (sessionCheck q i)) (aheadAt r i) (aheadAt q i) r q
+    spared-same (first (soundCheck r) (presentCheck r i)) (first (soundCheck q) (presentCheck q i)) (aheadAt r i) (aheadAt q i) r q
     (first-same (soundCheck r) (soundCheck q) (sound-same r q a) (λ e. session-same r q a i)) a
     (λ e.
     ahead-alike r q a i
-    (unless-within (decLt i (playing r)) refusal.NoSession (first-right (soundCheck r) (sessionCheck r i) e)))
+    (unless-within (decLt i (playing r)) refusal.NoSession (first-right (soundCheck r) (presentCheck r i) e)))
 
 -- ---- choose
 

@@ -1,7 +1,7 @@
 -- The verdict, by citation. Assumes nothing.
 use Prim.Native.Nat.{ℕ, _<_}
 use mathlib.Core.Path.{_≡_, sym, _∙_, ap, subst}
-use Rattle.drive.specs.declared.Show.{Show}
+use Rattle.show.specs.declared.Show.{Show}
 use Rattle.theory.specs.Counts.{Smallest}
 use Rattle.theory.specs.Shows.{loadOf}
 use Rattle.theory.proofs.Rounds.{round-same}

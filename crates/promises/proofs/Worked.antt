@@ -7,13 +7,13 @@ use native.Mathlib.Decide.{decLe, decLt, ℕ-discrete}
 use native.Mathlib.Omega.{arith}
 use lib.Dec.{T}
 use lib.IntN.{pos, negsuc}
-use Rattle.drive.specs.Decisions.{between?, counts?, drive?, layout?, session?}
-use Rattle.drive.specs.Lists.{listed}
+use Rattle.show.specs.Decisions.{between?, counts?, drive?, layout?, session?}
+use Rattle.show.specs.Lists.{listed}
 use Rattle.cost.specs.Bound.{worstTime, edges, ceil}
 use Rattle.cost.specs.Costs.{costOf}
 use Rattle.theory.specs.Sum.{sumTo}
 use Rattle.theory.specs.Floor.{floorZ}
-use Rattle.theory.specs.Spare.{less?, leastTo, slackBy, same?, before?, rank}
+use Rattle.theory.specs.Slack.{less?, leastTo, slackBy, same?, before?, rank}
 use Rattle.verdict.specs.Answers.{DecisionIs}
 use Rattle.run.specs.Sound.{SoundRun}
 use Rattle.run.specs.Decisions.{below?, some?, show?, good?, false?, true?, waiting?, state?, named?, nothing?, room?, put?, mayRead?, underway?, cycle?, sound?}

@@ -1,7 +1,7 @@
 -- Demand 1, that there is an answer. proofs/Answered.antt proves it.
 use Prim.Native.Nat.{ℕ}
 use mathlib.Core.List.{List}
-use Rattle.drive.specs.declared.Show.{Show}
+use Rattle.show.specs.declared.Show.{Show}
 use Rattle.showfile.specs.declared.Written.{Written}
 use Rattle.verdict.specs.declared.Decision.{Decision}
 use Rattle.verdict.specs.declared.Trial.{Trial}

@@ -4,8 +4,8 @@ use Prim.Native.Nat.{ℕ}
 use mathlib.Core.Path.{_≡_}
 use mathlib.Core.Bool.{Bool}
 use mathlib.Core.List.{List}
-use Rattle.drive.specs.declared.Show.{Show}
-use Rattle.drive.specs.Limits.{Tells}
+use Rattle.show.specs.declared.Show.{Show}
+use Rattle.show.specs.Limits.{Tells}
 use Rattle.showfile.specs.declared.Written.{Written}
 use Rattle.verdict.specs.declared.Decision.{Decision}
 use Rattle.verdict.specs.declared.Trial.{Trial}
@@ -16,11 +16,11 @@ use Rattle.reason.specs.declared.Reason.{Reason}
 use Rattle.reason.specs.Answers.{ReasonIs}
 use Rattle.report.specs.Answers.{TextIs, ReportIs}
 use Rattle.explain.specs.Answers.{SaidIs, ExplainIs}
-use Rattle.embed.specs.Answers.{Slices, ReportedIs, DecidedIs, ReasonedIs}
+use Rattle.chikchiro.specs.Answers.{Slices, ReportedIs, DecidedIs, ReasonedIs}
 use Rattle.promises.specs.Numbers.{Table}
 use Rattle.promises.specs.Files.{Trips}
 use Rattle.promises.specs.Verdict.{Verdicts}
-use Rattle.promises.specs.Lighter.{Lighter, Spare}
+use Rattle.promises.specs.Lighter.{Lighter, LighterRuns}
 use Rattle.promises.specs.Reports.{Reports}
 use Rattle.promises.specs.Reasons.{Reasons}
 use Rattle.promises.specs.Sayings.{Sayings}
@@ -76,7 +76,7 @@ pub record Third : Type 0 where
   -- Make an accepted show lighter and nothing gets worse: accepted again, no count, time, round or load larger, ..
   pub lighter : Lighter
   -- .. and where each session plays at the rate that it had or is not behind its cushion, no workahead and not the slack smaller.
-  pub spare : Spare
+  pub lighter-runs : LighterRuns
 
 -- Two results that satisfy one statement are equal, for every public call.
 pub record Once : Type 1 where

@@ -4,14 +4,14 @@ use mathlib.Core.Path.{_≡_}
 use mathlib.Core.List.{List, [], _∷_}
 use mathlib.Core.Logic.{_↔_}
 use lib.ListN.{length}
-use Rattle.drive.specs.declared.refusal.Refusal.{Refusal}
-use Rattle.drive.specs.Refusals.{numberOf, placeOf}
-use Rattle.drive.specs.Outcomes.{Outcome}
+use Rattle.show.specs.declared.refusal.Refusal.{Refusal}
+use Rattle.show.specs.Refusals.{numberOf, placeOf}
+use Rattle.show.specs.Outcomes.{Outcome}
 use Rattle.theory.specs.Counts.{Accepted}
 use Rattle.verdict.specs.declared.Verdict.{Verdict}
 use Rattle.verdict.specs.declared.Verdict.the-variants as verdict
 use Rattle.report.specs.Answers.{loadIn, textMost}
-use Rattle.embed.specs.Answers.{codeOf, verdictCode, Slices, Enough, ReportedIs, DecidedIs, ReasonedIs}
+use Rattle.chikchiro.specs.Answers.{codeOf, verdictCode, Slices, Enough, ReportedIs, DecidedIs, ReasonedIs}
 use Rattle.promises.specs.Refusals.{OneOf}
 use Rattle.promises.specs.Order.{Grants, _when_else_, _tells_, FileThen}
 

@@ -4,9 +4,9 @@ use Prim.Native.Nat.{ℕ, _≤_}
 use mathlib.Core.Path.{_≡_}
 use mathlib.Core.List.{List}
 use lib.ListN.{length}
-use Rattle.drive.specs.declared.Show.{Show}
-use Rattle.drive.specs.declared.refusal.Check.the-variants.{Within}
-use Rattle.drive.specs.Limits.{ShowWithin, Alike}
+use Rattle.show.specs.declared.Show.{Show}
+use Rattle.show.specs.declared.refusal.Check.the-variants.{Within}
+use Rattle.show.specs.Limits.{ShowWithin, Alike}
 use Rattle.showfile.specs.Bytes.{Bytes}
 use Rattle.showfile.specs.File.{fileOf, zeroed}
 use Rattle.showfile.specs.Checks.{noteMost}

@@ -1,13 +1,13 @@
--- Demand 3: make an accepted show lighter and nothing gets worse. proofs/Lighter.antt and proofs/Spare.antt prove it.
+-- Demand 3: make an accepted show lighter and nothing gets worse. proofs/Lighter.antt and proofs/LighterRuns.antt prove it.
 use Prim.Native.Nat.{ℕ, _≤_, _<_}
 use mathlib.Core.Path.{_≡_}
 use mathlib.Core.Bool.{false}
 use mathlib.Core.List.{[], _∷_}
 use lib.IntN.{ℤ, pos, negsuc}
 use lib.Signed.{_≤ℤ_, _<ℤ_}
-use Rattle.drive.specs.declared.Session.{Session}
-use Rattle.drive.specs.declared.Show.{Show}
-use Rattle.drive.specs.Limits.{ShowWithin}
+use Rattle.show.specs.declared.Session.{Session}
+use Rattle.show.specs.declared.Show.{Show}
+use Rattle.show.specs.Limits.{ShowWithin}
 use Rattle.theory.specs.Counts.{Smallest}
 use Rattle.theory.specs.Reasons.{tenths}
 use Rattle.theory.specs.Shows.{loadOf, Lightened, without, stoodAt}
@@ -79,7 +79,7 @@ one R P = runOf (showOf X (rated R ∷ [])) (1 ∷ []) (loaded P ∷ []) false
 abbrev pub two : ℕ → ℕ → Run
 two R P = runOf (showOf X (rated R ∷ rated R ∷ [])) (1 ∷ 1 ∷ []) (loaded P ∷ loaded P ∷ []) false
 
-pub record Spare : Type 0 where
+pub record LighterRuns : Type 0 where
   -- A session of the lighter run that plays at the rate it had, or that is not behind its cushion, has no less workahead; where each is so,
   -- the slack is no smaller.
   pub workahead :

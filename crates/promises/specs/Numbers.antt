@@ -6,17 +6,17 @@ use mathlib.Core.Bool.{Bool, true, false}
 use mathlib.Core.List.{List, [], _∷_, _++_}
 use lib.IntN.{pos, negsuc}
 use lib.ListN.{length, replicate, take, getD}
-use Rattle.drive.specs.declared.Drive.{Drive}
-use Rattle.drive.specs.declared.Layout.{Layout}
-use Rattle.drive.specs.declared.Session.{Session}
-use Rattle.drive.specs.declared.Show.{Show}
-use Rattle.drive.specs.declared.refusal.Refusal.the-variants.{NoSet}
-use Rattle.drive.specs.declared.refusal.Check.the-variants.{Within}
-use Rattle.drive.specs.Limits.{Between, ShowWithin, bufferMost, noLayout, noSession}
-use Rattle.drive.specs.Lists.{listed}
+use Rattle.show.specs.declared.Drive.{Drive}
+use Rattle.show.specs.declared.Layout.{Layout}
+use Rattle.show.specs.declared.Session.{Session}
+use Rattle.show.specs.declared.Show.{Show}
+use Rattle.show.specs.declared.refusal.Refusal.the-variants.{NoSet}
+use Rattle.show.specs.declared.refusal.Check.the-variants.{Within}
+use Rattle.show.specs.Limits.{Between, ShowWithin, bufferMost, noLayout, noSession}
+use Rattle.show.specs.Lists.{listed}
 use Rattle.verdict.specs.declared.worst.Worst.the-variants.{Takes}
 use Rattle.verdict.specs.WorstTimes.{worstOf}
-use Rattle.theory.specs.Spare.{slackBy}
+use Rattle.theory.specs.Slack.{slackBy}
 use Rattle.theory.specs.Counts.{unit, roundTime}
 use Rattle.theory.specs.Shows.{loadOf}
 use Rattle.verdict.specs.declared.Decision.{Decision}

@@ -7,12 +7,12 @@ use mathlib.Core.List.{List, []}
 use lib.IntN.{pos}
 use lib.Signed.{_<ℤ_}
 use lib.ListN.{length, drop}
-use Rattle.drive.specs.declared.Session.{Session}
-use Rattle.drive.specs.declared.Show.{Show}
-use Rattle.drive.specs.Limits.{Between, CountsWithin, DriveWithin, LaidWithin, PlayingWithin}
-use Rattle.drive.specs.Faults.{Lowest}
-use Rattle.drive.specs.Outcomes.{Outcome, granted, checkOutcome}
-use Rattle.drive.specs.Checks.{showCheck}
+use Rattle.show.specs.declared.Session.{Session}
+use Rattle.show.specs.declared.Show.{Show}
+use Rattle.show.specs.Limits.{Between, CountsWithin, DriveWithin, LaidWithin, PlayingWithin}
+use Rattle.show.specs.Faults.{Lowest}
+use Rattle.show.specs.Outcomes.{Outcome, granted, checkOutcome}
+use Rattle.show.specs.Checks.{showCheck}
 use Rattle.verdict.specs.WorstTimes.{worstOf, worstOutcome}
 use Rattle.theory.specs.Counts.{Accepted}
 use Rattle.theory.specs.Shows.{loadOf}
@@ -26,8 +26,8 @@ use Rattle.showfile.specs.declared.trailer.Trailer.{Trailer}
 use Rattle.showfile.specs.File.{trailerOf, fileOf}
 use Rattle.showfile.specs.Checks.{fileLeast, fileMost, noteMost, noteLength, Distanced}
 use Rattle.showfile.specs.Answers.{readOf, shownAt}
-use Rattle.filing.specs.Answers.{writtenOf}
-use Rattle.trips.specs.Answers.{rereadOf, copiedOf}
+use Rattle.showfile_write.specs.Answers.{writtenOf}
+use Rattle.showfile_write.specs.Trips.{rereadOf, copiedOf}
 use Rattle.report.specs.Answers.{ReportIs, textMost}
 use Rattle.explain.specs.Answers.{ExplainIs, saidMost}
 use Rattle.run.specs.declared.Opened.{Opened}
@@ -37,7 +37,7 @@ use Rattle.run.specs.declared.Underway.the-variants.{Nothing, Read}
 use Rattle.run.specs.declared.Run.{Run}
 use Rattle.run.specs.Run.{spanMost, playing, stateAt, seatAt, onward, RoomAt, PutAt}
 use Rattle.run.specs.Sound.{StateSound, SoundRun}
-use Rattle.sound.specs.Answers.{testOf, testOutcome}
+use Rattle.run_test.specs.Answers.{testOf, testOutcome}
 use Rattle.player.specs.Answers.{drawnOf}
 use Rattle.playback.specs.Answers.{passOf, takeOf, finishOf}
 use Rattle.scheduler.specs.Answers.{chooseOf, choiceOutcome}

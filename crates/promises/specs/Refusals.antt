@@ -5,20 +5,20 @@ use mathlib.Core.Bool.{Bool}
 use mathlib.Core.List.{List, [], _∷_}
 use mathlib.Core.Logic.{_⊎_}
 use lib.ListN.{length}
-use Rattle.drive.specs.declared.Session.{Session}
-use Rattle.drive.specs.declared.Show.{Show}
-use Rattle.drive.specs.declared.refusal.Refusal.{Refusal}
-use Rattle.drive.specs.declared.refusal.Check.the-variants.{Refused}
-use Rattle.drive.specs.Limits.{Between, noShow}
-use Rattle.drive.specs.Refusals.{numberOf, placeOf, toldOf}
-use Rattle.drive.specs.Checks.{showCheck}
-use Rattle.drive.specs.Outcomes.{Outcome, checkOutcome}
+use Rattle.show.specs.declared.Session.{Session}
+use Rattle.show.specs.declared.Show.{Show}
+use Rattle.show.specs.declared.refusal.Refusal.{Refusal}
+use Rattle.show.specs.declared.refusal.Check.the-variants.{Refused}
+use Rattle.show.specs.Limits.{Between, noShow}
+use Rattle.show.specs.Refusals.{numberOf, placeOf, toldOf}
+use Rattle.show.specs.Checks.{showCheck}
+use Rattle.show.specs.Outcomes.{Outcome, checkOutcome}
 use Rattle.verdict.specs.declared.worst.Worst.the-variants as worst
 use Rattle.verdict.specs.WorstTimes.{worstOf, worstOutcome}
 use Rattle.showfile.specs.declared.Written.{Written}
 use Rattle.showfile.specs.Answers.{readOf, noteOf}
-use Rattle.filing.specs.Answers.{writtenOf, bufferOf}
-use Rattle.trips.specs.Answers.{rereadOf, copiedOf, copyOf}
+use Rattle.showfile_write.specs.Answers.{writtenOf, bufferOf}
+use Rattle.showfile_write.specs.Trips.{rereadOf, copiedOf, copyOf}
 use Rattle.text.specs.Puts.{putOver, putTo}
 use Rattle.report.specs.Answers.{ReportIs}
 use Rattle.explain.specs.Answers.{ExplainIs}
@@ -35,7 +35,7 @@ use Rattle.run.specs.declared.State.{State}
 use Rattle.run.specs.declared.Run.{Run}
 use Rattle.run.specs.declared.Opened.{Opened}
 use Rattle.run.specs.Opening.{OpenIs, noRun}
-use Rattle.sound.specs.Answers.{testOutcome}
+use Rattle.run_test.specs.Answers.{testOutcome}
 use Rattle.player.specs.Answers.{drawnOf}
 use Rattle.playback.specs.Answers.{passOf, takeOf, finishOf}
 use Rattle.scheduler.specs.declared.Choice.the-variants as choice

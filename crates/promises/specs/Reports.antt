@@ -8,8 +8,8 @@ use Rattle.text.specs.Ascii.{ascii}
 use Rattle.text.specs.Decimal.{decimal}
 use Rattle.text.specs.Numerals.{Numeral}
 use Rattle.report.specs.Answers.{TextIs, textMost}
-use Rattle.figures.specs.declared.Number.the-variants.{Is}
-use Rattle.figures.specs.Numbers.{numberOf}
+use Rattle.parse.specs.declared.Number.the-variants.{Is}
+use Rattle.parse.specs.Numbers.{decimalOf}
 use Rattle.promises.specs.Numbers.{X, Z, clip, showOf}
 
 -- p3 with no note
@@ -25,6 +25,6 @@ pub record Reports : Type 0 where
   pub hundred : TextIs (fileOf (showOf Z (replicate 10 clip)) []) (ascii "refused 8 0\n")
   -- a number is told by its digits, and a program that reads them has that number again
   pub numbers : (n : ℕ) → n < 2 ^ 64 → Numeral n (decimal n)
-  pub read-back : (n : ℕ) → n < 2 ^ 64 → numberOf (decimal n) ≡ Is n
+  pub read-back : (n : ℕ) → n < 2 ^ 64 → decimalOf (decimal n) ≡ Is n
   -- no text has more bytes
   pub most : (f t : List ℕ) → TextIs f t → length t ≤ textMost

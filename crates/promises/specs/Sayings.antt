@@ -4,8 +4,8 @@ use mathlib.Core.Path.{_≡_}
 use mathlib.Core.List.{List, [], _∷_}
 use mathlib.Core.Logic.{_⊎_}
 use lib.ListN.{length, replicate}
-use Rattle.drive.specs.declared.refusal.Refusal.{Refusal}
-use Rattle.drive.specs.Refusals.{numberOf}
+use Rattle.show.specs.declared.refusal.Refusal.{Refusal}
+use Rattle.show.specs.Refusals.{numberOf}
 use Rattle.showfile.specs.File.{fileOf}
 use Rattle.showfile.specs.Answers.{readOf}
 use Rattle.theory.specs.Reasons.{tenths}

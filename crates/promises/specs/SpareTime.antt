@@ -4,9 +4,9 @@ use mathlib.Core.Path.{_≡_}
 use mathlib.Core.Bool.{false}
 use lib.IntN.{ℤ, pos, _-ℤ_, _*ℤ_}
 use lib.Signed.{_≤ℤ_}
-use Rattle.drive.specs.declared.refusal.Check.the-variants.{Within}
+use Rattle.show.specs.declared.refusal.Check.the-variants.{Within}
 use Rattle.theory.specs.Floor.{Floors}
-use Rattle.theory.specs.Spare.{spareBy, Before}
+use Rattle.theory.specs.Slack.{spareBy, Before}
 use Rattle.run.specs.declared.Underway.the-variants.{Nothing}
 use Rattle.run.specs.declared.Run.{Run}
 use Rattle.run.specs.Run.{playing, stateAt, clipAt, countAt, seatAt}

@@ -3,12 +3,12 @@
 use Prim.Native.Nat.{ℕ, _<_}
 use mathlib.Core.Path.{_≡_}
 use mathlib.Core.List.{List}
-use Rattle.drive.specs.declared.Show.{Show}
-use Rattle.drive.specs.Limits.{Alike}
-use Rattle.drive.specs.Checks.{showCheck}
+use Rattle.show.specs.declared.Show.{Show}
+use Rattle.show.specs.Limits.{Alike}
+use Rattle.show.specs.Checks.{showCheck}
 use Rattle.verdict.specs.WorstTimes.{worstOf}
-use Rattle.filing.specs.Answers.{writtenOf, bufferOf}
-use Rattle.trips.specs.Answers.{rereadOf}
+use Rattle.showfile_write.specs.Answers.{writtenOf, bufferOf}
+use Rattle.showfile_write.specs.Trips.{rereadOf}
 use Rattle.run.specs.declared.Run.{Run}
 use Rattle.run.specs.declared.Moved.{Moved}
 use Rattle.run.specs.declared.Opened.{Opened}

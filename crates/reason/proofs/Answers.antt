@@ -1,9 +1,9 @@
 -- What `load` answers, case by case. Assumes nothing.
 use mathlib.Core.Path.{_≡_}
-use Rattle.drive.specs.declared.Show.{Show}
-use Rattle.drive.specs.declared.refusal.Refusal.{Refusal}
-use Rattle.drive.specs.declared.refusal.Check.the-variants as check
-use Rattle.drive.specs.Checks.{showCheck}
+use Rattle.show.specs.declared.Show.{Show}
+use Rattle.show.specs.declared.refusal.Refusal.{Refusal}
+use Rattle.show.specs.declared.refusal.Check.the-variants as check
+use Rattle.show.specs.Checks.{showCheck}
 use Rattle.theory.specs.Reasons.{tenths}
 use Rattle.theory.specs.Shows.{loadOf}
 use Rattle.reason.specs.declared.Loaded.the-variants as loaded

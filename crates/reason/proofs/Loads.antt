@@ -4,8 +4,8 @@ use mathlib.Core.Path.{_≡_, sym, _∙_, ap}
 use mathlib.Core.Logic.{_↔_}
 use native.Mathlib.Omega.{arith}
 use native.Mathlib.Nat.{le-trans, mul-add, mul-assoc, mul-left-comm, mul-le-mul, mul-le-mul-left, mul-pos, mul-add-div, mul-add-mod-self-left, div-add-mod, div-le-self, le-div-iff-mul-le, mod-lt}
-use Rattle.drive.specs.declared.Show.{Show}
-use Rattle.drive.specs.Limits.{ShowWithin, blockMost, rateMost, sessionAt}
+use Rattle.show.specs.declared.Show.{Show}
+use Rattle.show.specs.Limits.{ShowWithin, blockMost, rateMost, sessionAt}
 use Rattle.cost.specs.declared.Cost.{Cost}
 use Rattle.cost.specs.Bound.{weight, eachMost, crossMost}
 use Rattle.cost.specs.Costs.{costOf}

@@ -2,12 +2,12 @@
 use Prim.Native.Nat.{ℕ}
 use mathlib.Core.Path.{_≡_, refl, sym, _∙_, ap, ap₂}
 use mathlib.Core.Logic.{inl, inr}
-use Rattle.drive.specs.declared.Show.{Show}
-use Rattle.drive.specs.declared.refusal.Check.{Check}
-use Rattle.drive.specs.declared.refusal.Check.the-variants as check
-use Rattle.drive.specs.Limits.{ShowWithin, bufferMost}
-use Rattle.drive.specs.Checks.{showCheck}
-use Rattle.drive.proofs.Shows.{check-within}
+use Rattle.show.specs.declared.Show.{Show}
+use Rattle.show.specs.declared.refusal.Check.{Check}
+use Rattle.show.specs.declared.refusal.Check.the-variants as check
+use Rattle.show.specs.Limits.{ShowWithin, bufferMost}
+use Rattle.show.specs.Checks.{showCheck}
+use Rattle.show.proofs.Shows.{check-within}
 use Rattle.theory.specs.Counts.{Accepted}
 use Rattle.theory.specs.Reasons.{widened, TooSmall}
 use Rattle.theory.specs.Shows.{loadOf}

@@ -4,9 +4,9 @@ use mathlib.Core.Path.{_≡_, refl, sym, _∙_}
 use mathlib.Core.List.{List}
 use native.Mathlib.Omega.{arith}
 use borrow.Author.Count.{below-more}
-use Rattle.drive.specs.declared.Show.{Show}
-use Rattle.drive.specs.declared.refusal.Refusal.{Refusal}
-use Rattle.drive.specs.Limits.{ShowWithin, bufferMost}
+use Rattle.show.specs.declared.Show.{Show}
+use Rattle.show.specs.declared.refusal.Refusal.{Refusal}
+use Rattle.show.specs.Limits.{ShowWithin, bufferMost}
 use Rattle.cost.specs.Bound.{countMost}
 use Rattle.theory.specs.Counts.{needed, Smallest}
 use Rattle.theory.specs.Reasons.{widened}

@@ -3,12 +3,12 @@ use Prim.Native.Nat.{ℕ, _<_}
 use mathlib.Core.Path.{_≡_, refl, sym, _∙_, ap}
 use native.Mathlib.Omega.{arith}
 use native.Mathlib.Nat.{le-antisymm, le-refl}
-use Rattle.drive.specs.declared.Show.{Show}
-use Rattle.drive.specs.declared.refusal.Check.{Check}
-use Rattle.drive.specs.declared.refusal.Check.the-variants as check
-use Rattle.drive.specs.Limits.{ShowWithin, Alike, bufferMost}
-use Rattle.drive.specs.Checks.{showCheck}
-use Rattle.drive.proofs.Shows.{check-within, alike-check}
+use Rattle.show.specs.declared.Show.{Show}
+use Rattle.show.specs.declared.refusal.Check.{Check}
+use Rattle.show.specs.declared.refusal.Check.the-variants as check
+use Rattle.show.specs.Limits.{ShowWithin, Alike, bufferMost}
+use Rattle.show.specs.Checks.{showCheck}
+use Rattle.show.proofs.Shows.{check-within, alike-check}
 use Rattle.theory.specs.Counts.{Load, needed, Accepted, Smallest}
 use Rattle.theory.specs.Lighter.{Lighter}
 use Rattle.theory.specs.Reasons.{widened, NeverKeepsUp, TooSmall}

@@ -4,11 +4,11 @@ use mathlib.Core.Path.{_≡_, refl, sym, _∙_, ap}
 use mathlib.Core.List.{List}
 use native.Mathlib.Omega.{arith}
 use lib.ListN.{set}
-use Rattle.drive.specs.declared.Session.{Session}
-use Rattle.drive.specs.declared.Show.{Show}
-use Rattle.drive.specs.Limits.{ShowWithin, SessionWithin, sessionAt, noSession, bufferMost}
-use Rattle.drive.specs.Lists.{listed, padded}
-use Rattle.drive.proofs.Lists.{filled-more, filled-at}
+use Rattle.show.specs.declared.Session.{Session}
+use Rattle.show.specs.declared.Show.{Show}
+use Rattle.show.specs.Limits.{ShowWithin, SessionWithin, sessionAt, noSession, bufferMost}
+use Rattle.show.specs.Lists.{listed, padded}
+use Rattle.show.proofs.Lists.{filled-more, filled-at}
 use Rattle.cost.specs.Costs.{costOf}
 use Rattle.theory.specs.Counts.{Accepted, Smallest}
 use Rattle.theory.specs.Lighter.{Lighter}

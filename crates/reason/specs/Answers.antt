@@ -3,13 +3,13 @@ use Prim.Native.Nat.{ℕ}
 use mathlib.Core.Path.{_≡_}
 use mathlib.Core.List.{[], _∷_}
 use lib.IntN.{pos}
-use Rattle.drive.specs.declared.Show.{Show}
-use Rattle.drive.specs.declared.refusal.Refusal.{Refusal}
-use Rattle.drive.specs.declared.refusal.Check.{Check}
-use Rattle.drive.specs.declared.refusal.Check.the-variants as check
-use Rattle.drive.specs.Limits.{ShowWithin, bufferMost}
-use Rattle.drive.specs.Checks.{showCheck}
-use Rattle.drive.specs.Outcomes.{Outcome, granted, refusedBy}
+use Rattle.show.specs.declared.Show.{Show}
+use Rattle.show.specs.declared.refusal.Refusal.{Refusal}
+use Rattle.show.specs.declared.refusal.Check.{Check}
+use Rattle.show.specs.declared.refusal.Check.the-variants as check
+use Rattle.show.specs.Limits.{ShowWithin, bufferMost}
+use Rattle.show.specs.Checks.{showCheck}
+use Rattle.show.specs.Outcomes.{Outcome, granted, refusedBy}
 use Rattle.theory.specs.Counts.{Accepted}
 use Rattle.theory.specs.Reasons.{NeverKeepsUp, Beyond, TooSmall, tenths}
 use Rattle.theory.specs.Shows.{loadOf}
@@ -27,13 +27,13 @@ pub data ReasonIs (s : Show) : Reason → Type 0 where
   outside : (w : Refusal) → showCheck s ≡ check.Refused w → ReasonIs s (reason.Refused w)
 
 -- the tenths, unless a test refused
-abbrev pub answered : Check → ℕ → Loaded
-answered check.Within n = loaded.Tenths n
-answered (check.Refused w) n = loaded.Refused w
+abbrev pub loadAnswer : Check → ℕ → Loaded
+loadAnswer check.Within n = loaded.Tenths n
+loadAnswer (check.Refused w) n = loaded.Refused w
 
 -- The load in tenths of a per cent, or 2, 5, 6, 7.
 unfoldable pub loadedOf : Show → Loaded
-loadedOf s = answered (showCheck s) (tenths (loadOf s))
+loadedOf s = loadAnswer (showCheck s) (tenths (loadOf s))
 
 -- which reason, 0 for none; of a buffer that is too small its session and the size that it needs; or the refusal
 abbrev pub reasonOutcome : Reason → Outcome

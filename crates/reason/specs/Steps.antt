@@ -1,9 +1,9 @@
 -- What the private functions ask and answer.
 use Prim.Native.Nat.{ℕ, _*_, _/_, _%_, _≤_, _<_}
-use Rattle.drive.specs.declared.Session.{Session}
-use Rattle.drive.specs.declared.Show.{Show}
-use Rattle.drive.specs.Limits.{sessionAt, noSession, rateMost, bufferMost}
-use Rattle.drive.specs.Lists.{listed, padded}
+use Rattle.show.specs.declared.Session.{Session}
+use Rattle.show.specs.declared.Show.{Show}
+use Rattle.show.specs.Limits.{sessionAt, noSession, rateMost, bufferMost}
+use Rattle.show.specs.Lists.{listed, padded}
 use Rattle.cost.specs.Bound.{eachMost, crossMost}
 use Rattle.cost.specs.Costs.{costOf}
 use Rattle.theory.specs.Sum.{sumTo}

@@ -2,7 +2,7 @@
 mod work;
 
 ghost use mathlib.Core.Path.{_≡_};
-ghost use Rattle.drive.specs.Limits.{ShowWithin, bufferMost};
+ghost use Rattle.show.specs.Limits.{ShowWithin, bufferMost};
 ghost use Rattle.verdict.specs.Answers.{setOf};
 ghost use Rattle.theory.specs.Counts.{Smallest};
 ghost use Rattle.theory.specs.Reasons.{widened};
@@ -10,10 +10,10 @@ ghost use Rattle.theory.specs.Shows.{loadOf};
 ghost use Rattle.reason.specs.Answers.{ReasonIs, loadedOf};
 ghost use Rattle.reason.specs.Steps.{widestOf};
 use crate::work::weigh;
-use drive::Session;
-use drive::Show;
-use drive::refusal::Check;
-use drive::refusal::Refusal;
+use show::Session;
+use show::Show;
+use show::refusal::Check;
+use show::refusal::Refusal;
 use verdict::Verdict;
 
 // None of an accepted show. Too small a buffer comes with the lowest session that has one, and with the size that it needs.

@@ -1,11 +1,11 @@
 // The load of a show: the sum over sessions of R x (N x block time + one-track seek), against N x A x 1,000,000. The sum can pass 64 bits
 // and is not formed.
 ghost use mathlib.Core.Path.{_≡_};
-ghost use Rattle.drive.specs.Limits.{ShowWithin};
+ghost use Rattle.show.specs.Limits.{ShowWithin};
 ghost use Rattle.theory.specs.Shows.{loadOf};
 ghost use Rattle.reason.specs.Steps.{sumsOf, SumsSmall, workOf, WorkSmall};
 use cost::Cost;
-use drive::Show;
+use show::Show;
 
 // The sum of R x block time, and that of R x one-track seek.
 struct Sums {

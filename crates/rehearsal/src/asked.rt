@@ -3,12 +3,12 @@ use crate::fields::Field;
 use crate::fields::field_of;
 use crate::fields::place_in;
 use crate::fields::single_of;
-use figures::Number;
-use figures::decimal;
-use figures::unhex;
-use lines::part;
-use lines::parts;
-use lines::same;
+use parse::Number;
+use parse::decimal;
+use parse::part;
+use parse::parts;
+use parse::same;
+use parse::unhex;
 
 // `Malformed` is a line that is none of these.
 pub(crate) enum Word {

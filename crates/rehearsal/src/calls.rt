@@ -3,12 +3,12 @@ use crate::asked::Asked;
 use crate::asked::Word;
 use crate::text::say;
 use crate::text::tell;
-use drive::refusal::Check;
-use drive::refusal::Told;
 use run::Moved;
 use run::Run;
 use scheduler::Choice;
 use scheduler::Chosen;
+use show::refusal::Check;
+use show::refusal::Told;
 use spare::Spare;
 use spare::Spared;
 

@@ -11,13 +11,13 @@ use crate::shows::file_of;
 use crate::shows::junked;
 use crate::text::say;
 use crate::text::tell;
-use drive::Show;
-use drive::refusal::Check;
-use drive::refusal::Told;
-use lines::find;
-use lines::part;
-use lines::same;
+use parse::find;
+use parse::part;
+use parse::same;
 use run::Run;
+use show::Show;
+use show::refusal::Check;
+use show::refusal::Told;
 use showfile::Reading;
 
 // A longer line is malformed.

@@ -1,14 +1,14 @@
 // The fields of a run record, by the names that a script has for them, and one of them overwritten.
 ghost use Prim.Native.Nat.{_<_};
-use drive::Layout;
-use drive::Session;
-use drive::Show;
-use lines::part;
-use lines::parts;
-use lines::same;
+use parse::part;
+use parse::parts;
+use parse::same;
 use run::Run;
 use run::State;
 use run::Underway;
+use show::Layout;
+use show::Session;
+use show::Show;
 
 pub(crate) enum Field {
     Unknown,

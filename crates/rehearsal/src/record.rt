@@ -2,7 +2,7 @@
 ghost use Prim.Native.Nat.{_<_, _≤_};
 use crate::text::say;
 use crate::text::tell;
-use lines::part;
+use parse::part;
 use run::Run;
 use run::Underway;
 

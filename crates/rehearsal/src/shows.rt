@@ -1,9 +1,9 @@
 // The show of a case: its file in hex, and junk in its unused places.
-use drive::Layout;
-use drive::Session;
-use drive::Show;
-use figures::Number;
-use figures::unhex;
+use parse::Number;
+use parse::unhex;
+use show::Layout;
+use show::Session;
+use show::Show;
 use showfile::Reading;
 
 // A byte more than the longest file: a file that fills this is refused for its length, whatever follows.

@@ -3,8 +3,8 @@ ghost use Prim.Native.Nat.{_≤_};
 ghost use lib.ListN.{length};
 use libc::STDERR_FILENO;
 use libc::STDOUT_FILENO;
-use lines::part;
-use lines::parts;
+use parse::part;
+use parse::parts;
 
 pub(crate) fn say(bytes: &[u8]) -> bool {
     io::write_all(STDOUT_FILENO, bytes)

@@ -7,9 +7,9 @@ use native.Mathlib.Nat.{le-refl, le-trans}
 use native.Mathlib.Numerals.{add-one}
 use native.Mathlib.Omega.{arith}
 use lib.ListN.{length, length-append}
-use Rattle.drive.specs.declared.Show.{Show}
-use Rattle.drive.specs.declared.refusal.Refusal.the-variants.{NoSet}
-use Rattle.drive.specs.Limits.{ShowWithin, bufferMost}
+use Rattle.show.specs.declared.Show.{Show}
+use Rattle.show.specs.declared.refusal.Refusal.the-variants.{NoSet}
+use Rattle.show.specs.Limits.{ShowWithin, bufferMost}
 use Rattle.cost.specs.Bound.{countMost, worstMost}
 use Rattle.cost.specs.Costs.{costOf}
 use Rattle.cost.proofs.Bound.{worst-capped}
@@ -18,7 +18,7 @@ use Rattle.showfile.proofs.Readable.{read-within}
 use Rattle.text.specs.Ascii.{ascii}
 use Rattle.text.specs.Decimal.{decimal}
 use Rattle.text.specs.Lines.{twoLine}
-use Rattle.text.specs.Puts.{Room}
+use Rattle.text.specs.Puts.{FitsAt}
 use Rattle.text.proofs.Digits.{decimal-few}
 use Rattle.text.proofs.Lines.{two-length, refused-few}
 use Rattle.theory.specs.Counts.{Load, Good, roundTime, needed}
@@ -96,5 +96,5 @@ text-most f t (eight e none) = let g = refused-few NoSet in omega arith
 text-most f t (unread w e) = let g = refused-few w in omega arith
 
 -- A buffer that takes every text has room for this one.
-pub text-room : (f t b : List ℕ) → TextIs f t → textMost ≤ length b → Room b 0 t
+pub text-room : (f t b : List ℕ) → TextIs f t → textMost ≤ length b → FitsAt b 0 t
 text-room f t b h l = record { fits = (let g = text-most f t h in omega arith) }

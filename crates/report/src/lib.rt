@@ -6,14 +6,14 @@ ghost use Rattle.theory.specs.Counts.{roundTime};
 ghost use Rattle.theory.specs.Shows.{loadOf};
 ghost use Rattle.verdict.specs.Answers.{setOf};
 ghost use Rattle.text.specs.Lines.{twoLine, refusedText};
-ghost use Rattle.text.specs.Puts.{Room, Put};
+ghost use Rattle.text.specs.Puts.{FitsAt, Put};
 ghost use Rattle.text.specs.Told.{Texted};
 ghost use Rattle.report.specs.Text.{fourLine, sessionLines, acceptedText};
 ghost use Rattle.report.specs.Answers.{TextIs, ReportIs, textMost};
 ghost use Rattle.report.specs.Steps.{Timed};
-use drive::Show;
-use drive::refusal::Check;
-use drive::refusal::Refusal;
+use show::Show;
+use show::refusal::Check;
+use show::refusal::Refusal;
 use showfile::Written;
 use verdict::Decision;
 use verdict::Verdict;
@@ -23,7 +23,7 @@ pub const TEXT_MOST: usize = 594;
 
 // A word and two numbers.
 fn put_two(out: &mut [u8], at: usize, word: &[u8], a: u64, b: u64) -> usize
-    requires { ⌜ Room (now out) at (twoLine (now word) a b) ⌝ }
+    requires { ⌜ FitsAt (now out) at (twoLine (now word) a b) ⌝ }
     ensures { λ r. ⌜ Put (now (out .entry)) at (twoLine (now (word .entry)) a b) (now (out .exit)) r ⌝ }
 {
     let second = text::put_numbered(out, at, word, a, b" ");
@@ -31,7 +31,7 @@ fn put_two(out: &mut [u8], at: usize, word: &[u8], a: u64, b: u64) -> usize
 }
 
 fn put_four(out: &mut [u8], at: usize, a: u64, b: u64, c: u64, d: u64) -> usize
-    requires { ⌜ Room (now out) at (fourLine a b c d) ⌝ }
+    requires { ⌜ FitsAt (now out) at (fourLine a b c d) ⌝ }
     ensures { λ r. ⌜ Put (now (out .entry)) at (fourLine a b c d) (now (out .exit)) r ⌝ }
 {
     let second = text::put_numbered(out, at, b"", a, b" ");
@@ -58,7 +58,7 @@ fn put_session(
     block: u32,
     cushion: u32,
 ) -> usize
-    requires { ⌜ Room (now out) at (fourLine i count time ((count + 1) * block + cushion)) ⌝ }
+    requires { ⌜ FitsAt (now out) at (fourLine i count time ((count + 1) * block + cushion)) ⌝ }
     ensures { λ r. ⌜ Put (now (out .entry)) at (fourLine i count time ((count + 1) * block + cushion)) (now (out .exit)) r ⌝ }
 {
     let blocks = (count as u64 + 1) * block as u64;
@@ -69,7 +69,7 @@ fn put_session(
 // A line for each session.
 fn put_sessions(out: &mut [u8], at: usize, show: Show, counts: [u32; 16], times: [u64; 16]) -> usize
     requires { ⌜ Timed show counts times ⌝ }
-    requires { ⌜ Room (now out) at (sessionLines (loadOf show) (setOf counts) (show .playing)) ⌝ }
+    requires { ⌜ FitsAt (now out) at (sessionLines (loadOf show) (setOf counts) (show .playing)) ⌝ }
     ensures { λ r. ⌜ Put (now (out .entry)) at (sessionLines (loadOf show) (setOf counts) (show .playing)) (now (out .exit)) r ⌝ }
 {
     let sessions = show.sessions;
@@ -94,7 +94,7 @@ fn put_sessions(out: &mut [u8], at: usize, show: Show, counts: [u32; 16], times:
 fn put_accepted(out: &mut [u8], show: Show, decision: Decision) -> usize
     requires { ⌜ Timed show (decision .counts) (decision .times) ⌝ }
     requires { ⌜ decision .round ≡ roundTime (loadOf show) (setOf (decision .counts)) ⌝ }
-    requires { ⌜ Room (now out) 0 (acceptedText (loadOf show) (setOf (decision .counts))) ⌝ }
+    requires { ⌜ FitsAt (now out) 0 (acceptedText (loadOf show) (setOf (decision .counts))) ⌝ }
     ensures { λ r. ⌜ Put (now (out .entry)) 0 (acceptedText (loadOf show) (setOf (decision .counts))) (now (out .exit)) r ⌝ }
 {
     let counts = decision.counts;

@@ -12,9 +12,9 @@ ghost use lib.ListN.{length};
 use crate::lent::LENT;
 use crate::lent::alike_from;
 use crate::lent::fresh;
-use drive::refusal::Check;
 use libc::STDIN_FILENO;
 use libc::STDOUT_FILENO;
+use show::refusal::Check;
 use showfile::Written;
 
 fn main() {

@@ -6,13 +6,13 @@ use mathlib.Core.List.{List}
 use native.Mathlib.Nat.{le-refl}
 use native.Mathlib.Omega.{arith}
 use lib.ListN.{length, getD, getD-replicate, length-append, length-replicate}
-use Rattle.drive.specs.declared.Session.{Session}
-use Rattle.drive.specs.declared.Show.{Show}
-use Rattle.drive.specs.declared.refusal.Check.the-variants.{Within}
-use Rattle.drive.specs.Limits.{Between, ShowWithin}
-use Rattle.drive.specs.Lists.{listed, padded}
-use Rattle.drive.proofs.Checks.{within-refused}
-use Rattle.drive.proofs.Lists.{listed-length, filled-none, filled-at}
+use Rattle.show.specs.declared.Session.{Session}
+use Rattle.show.specs.declared.Show.{Show}
+use Rattle.show.specs.declared.refusal.Check.the-variants.{Within}
+use Rattle.show.specs.Limits.{Between, ShowWithin}
+use Rattle.show.specs.Lists.{listed, padded}
+use Rattle.show.proofs.Checks.{within-refused}
+use Rattle.show.proofs.Lists.{listed-length, filled-none, filled-at}
 use Rattle.theory.specs.Counts.{Good, Smallest}
 use Rattle.theory.specs.Shows.{loadOf}
 use Rattle.theory.proofs.Rounds.{good-same}

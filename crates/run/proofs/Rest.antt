@@ -7,12 +7,12 @@ use native.Mathlib.Decide.{decLe}
 use native.Mathlib.Omega.{arith}
 use lib.ListN.{length, getD, set, length-set}
 use lib.Seq.{getD-set-other}
-use Rattle.drive.specs.declared.Show.{Show}
+use Rattle.show.specs.declared.Show.{Show}
 use Rattle.run.specs.declared.State.{State}
 use Rattle.run.specs.declared.Underway.{Underway}
 use Rattle.run.specs.declared.Run.{Run}
 use Rattle.run.specs.Run.{playing, noState, stateAt, withStates, withCycle}
-use Rattle.run.specs.Steps.{tickedAt, statesAfter, passed, taken, idled, begun, stored, counted, landed}
+use Rattle.run.specs.Steps.{tickedAt, statesAfter, passed, drawnAt, idled, begun, stored, counted, landed}
 use Rattle.run.specs.Laws.{Kept}
 use Rattle.run.proofs.Changed.{changed-length, changed-above}
 use Rattle.run.proofs.Steps.{ite-either}
@@ -64,9 +64,9 @@ module _ (r : Run) where
           states-kept _ (λ i h. changed-above (tickedAt r d) (playing r) (r .states) i h)
           (changed-length (tickedAt r d) (playing r) (r .states))
 
-  pub taken-kept : (i n : ℕ) → i < playing r → Kept r (taken r i n)
-  unfolding taken
-  taken-kept i n l = set-kept i _ l
+  pub drawn-kept : (i n : ℕ) → i < playing r → Kept r (drawnAt r i n)
+  unfolding drawnAt
+  drawn-kept i n l = set-kept i _ l
 
   pub idled-kept : Kept r (idled r)
   unfolding idled

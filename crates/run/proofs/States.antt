@@ -3,8 +3,8 @@ use Prim.Native.Nat.{ℕ, _-_, _*_, _≤_}
 use mathlib.Core.Path.{_≡_, sym, _∙_}
 use mathlib.Core.Bool.{Bool, true, false}
 use native.Mathlib.Omega.{arith}
-use Rattle.drive.specs.declared.Session.{Session}
-use Rattle.drive.specs.Limits.{Tells}
+use Rattle.show.specs.declared.Session.{Session}
+use Rattle.show.specs.Limits.{Tells}
 use Rattle.run.specs.declared.State.{State}
 use Rattle.run.specs.Run.{putMost}
 use Rattle.run.specs.Sound.{Waiting, StateSound}

@@ -8,8 +8,8 @@ use native.Mathlib.Decide.{decLt, decLe}
 use native.Mathlib.Nat.{le-refl, mod-lt, mod-eq-of-lt, min-le-right}
 use native.Mathlib.Omega.{arith}
 use lib.ListN.{length, getD, set}
-use Rattle.drive.specs.declared.Session.{Session}
-use Rattle.drive.specs.Limits.{Between}
+use Rattle.show.specs.declared.Session.{Session}
+use Rattle.show.specs.Limits.{Between}
 use Rattle.run.specs.declared.State.{State}
 use Rattle.run.specs.declared.Underway.{Underway}
 use Rattle.run.specs.declared.Underway.the-variants.{Nothing, Read}
@@ -17,7 +17,7 @@ use Rattle.run.specs.declared.Run.{Run}
 use Rattle.run.specs.Run.{playing, noState, stateAt, clipAt, seatAt, wholeAt, onward, putMost, Room, RoomAt, PutAt}
 use Rattle.run.specs.Run.{withStates, withCycle}
 use Rattle.run.specs.Sound.{StateSound, StatesSound, Turning, Resting, MayRead, SoundRun}
-use Rattle.run.specs.Steps.{ticked, tickedAt, statesAfter, passed, drawn, taken, idled, leftAfter, begun}
+use Rattle.run.specs.Steps.{ticked, tickedAt, statesAfter, passed, drawn, drawnAt, idled, leftAfter, begun}
 use Rattle.run.specs.Steps.{filled, stored, counted, landed}
 use Rattle.run.proofs.States.{true-false}
 use Rattle.run.proofs.Orders.{names-below}
@@ -175,11 +175,11 @@ passed-sound r d n s = from (r .started) refl
         (λ i l. rw (changed-below (tickedAt r d) (playing r) (r .states) i l n) (ticked-sound (s .states i l) _ d e))
         (λ i l. rw (changed-below (tickedAt r d) (playing r) (r .states) i l n) (record { put = refl; taken = le-refl _ }))
 
-pub taken-sound :
+pub drawn-sound :
     (r : Run) (i n : ℕ) → playing r ≤ length (r .states) → SoundRun r → i < playing r → r .started ≡ true →
-    n ≤ stateAt r i .put - stateAt r i .taken → SoundRun (taken r i n)
-unfolding taken
-taken-sound r i n k s l e h =
+    n ≤ stateAt r i .put - stateAt r i .taken → SoundRun (drawnAt r i n)
+unfolding drawnAt
+drawn-sound r i n k s l e h =
     replaced-sound r s _ (set-sound r s i _ k l (drawn-sound (s .states i l) n e h))
     (set-each (λ j t. Later (stateAt r j) t) (r .states) (playing r) i _ k l (record { put = refl; taken = omega arith })
     (λ j m. same-later))

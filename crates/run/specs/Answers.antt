@@ -1,10 +1,10 @@
 -- What calls on a run answer by: docs/RULES.md, section 9.
 use Prim.Native.Nat.{ℕ}
 use native.Mathlib.Decide.{decLt}
-use Rattle.drive.specs.declared.refusal.Refusal.the-variants as refusal
-use Rattle.drive.specs.declared.refusal.Check.{Check}
-use Rattle.drive.specs.declared.refusal.Check.the-variants.{Within, Refused}
-use Rattle.drive.specs.Checks.{unless}
+use Rattle.show.specs.declared.refusal.Refusal.the-variants as refusal
+use Rattle.show.specs.declared.refusal.Check.{Check}
+use Rattle.show.specs.declared.refusal.Check.the-variants.{Within, Refused}
+use Rattle.show.specs.Checks.{unless}
 use Rattle.run.specs.declared.Underway.{Underway}
 use Rattle.run.specs.declared.Underway.the-variants.{Nothing, Read}
 use Rattle.run.specs.declared.Run.{Run}
@@ -17,8 +17,8 @@ moved Within r next = record { check = Within; run = next }
 moved (Refused w) r next = record { check = Refused w; run = r }
 
 -- 9: no such session
-abbrev pub sessionCheck : Run → ℕ → Check
-sessionCheck r i = unless (decLt i (playing r)) refusal.NoSession
+abbrev pub presentCheck : Run → ℕ → Check
+presentCheck r i = unless (decLt i (playing r)) refusal.NoSession
 
 -- 13: a read is under way
 abbrev pub freeCheck : Underway → Check

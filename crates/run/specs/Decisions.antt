@@ -8,13 +8,13 @@ use mathlib.Core.List.{List}
 use native.Mathlib.Decide.{decLe, decLt, ℕ-discrete}
 use native.Mathlib.Omega.{arith}
 use lib.ListN.{getD}
-use Rattle.drive.specs.declared.Session.{Session}
-use Rattle.drive.specs.declared.Show.{Show}
-use Rattle.drive.specs.declared.refusal.Refusal.the-variants.{Damaged}
-use Rattle.drive.specs.declared.refusal.Check.{Check}
-use Rattle.drive.specs.Checks.{unless}
-use Rattle.drive.specs.Limits.{ShowWithin, layoutAt, sessionAt}
-use Rattle.drive.specs.Decisions.{decided, between?, counts?, drive?, layout?, session?}
+use Rattle.show.specs.declared.Session.{Session}
+use Rattle.show.specs.declared.Show.{Show}
+use Rattle.show.specs.declared.refusal.Refusal.the-variants.{Damaged}
+use Rattle.show.specs.declared.refusal.Check.{Check}
+use Rattle.show.specs.Checks.{unless}
+use Rattle.show.specs.Limits.{ShowWithin, layoutAt, sessionAt}
+use Rattle.show.specs.Decisions.{decided, between?, counts?, drive?, layout?, session?}
 use Rattle.theory.specs.Counts.{Load, Good}
 use Rattle.theory.specs.Shows.{loadOf}
 use Rattle.verdict.specs.Answers.{setOf}

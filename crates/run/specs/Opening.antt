@@ -4,10 +4,10 @@ use mathlib.Core.Path.{_≡_}
 use mathlib.Core.Bool.{false}
 use mathlib.Core.List.{List}
 use lib.ListN.{getD, replicate}
-use Rattle.drive.specs.declared.Show.{Show}
-use Rattle.drive.specs.declared.refusal.Check.the-variants.{Within, Refused}
-use Rattle.drive.specs.Limits.{noShow}
-use Rattle.drive.specs.Lists.{listed, padded}
+use Rattle.show.specs.declared.Show.{Show}
+use Rattle.show.specs.declared.refusal.Check.the-variants.{Within, Refused}
+use Rattle.show.specs.Limits.{noShow}
+use Rattle.show.specs.Lists.{listed, padded}
 use Rattle.verdict.specs.declared.Decision.{Decision}
 use Rattle.verdict.specs.declared.Verdict.{Verdict}
 use Rattle.verdict.specs.declared.Verdict.the-variants as verdict

@@ -2,8 +2,8 @@
 use Prim.Native.Nat.{ℕ, _+_, _%_, _≤_}
 use mathlib.Core.List.{List}
 use lib.ListN.{getD}
-use Rattle.drive.specs.declared.Session.{Session}
-use Rattle.drive.specs.Limits.{sessionAt}
+use Rattle.show.specs.declared.Session.{Session}
+use Rattle.show.specs.Limits.{sessionAt}
 use Rattle.verdict.specs.Answers.{setOf}
 use Rattle.run.specs.declared.State.{State}
 use Rattle.run.specs.declared.Underway.{Underway}

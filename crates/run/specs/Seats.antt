@@ -1,6 +1,6 @@
 -- What the code between the calls goes by. No promise rests on it.
 use Prim.Native.Nat.{ℕ, _<_}
-use Rattle.drive.specs.Limits.{Between}
+use Rattle.show.specs.Limits.{Between}
 use Rattle.run.specs.declared.Run.{Run}
 use Rattle.run.specs.Run.{playing, seatAt}
 

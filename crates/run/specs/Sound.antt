@@ -4,8 +4,8 @@ use mathlib.Core.Path.{_≡_}
 use mathlib.Core.Bool.{Bool, false}
 use mathlib.Core.List.{List}
 use lib.ListN.{getD}
-use Rattle.drive.specs.declared.Session.{Session}
-use Rattle.drive.specs.Limits.{Between, ShowWithin}
+use Rattle.show.specs.declared.Session.{Session}
+use Rattle.show.specs.Limits.{Between, ShowWithin}
 use Rattle.theory.specs.Counts.{Good}
 use Rattle.theory.specs.Shows.{loadOf}
 use Rattle.verdict.specs.Answers.{setOf}

@@ -35,8 +35,8 @@ passed r d = withStates r (statesAfter (r .started) r d)
 abbrev pub drawn : ℕ → State → State
 drawn n s = record { put = s .put; taken = s .taken + n; clock = s .clock }
 
-unfoldable pub taken : Run → ℕ → ℕ → Run
-taken r i n = withStates r (set (r .states) i (drawn n (stateAt r i)))
+unfoldable pub drawnAt : Run → ℕ → ℕ → Run
+drawnAt r i n = withStates r (set (r .states) i (drawn n (stateAt r i)))
 
 -- Nobody has room: the place stays and has its whole count left again.
 unfoldable pub idled : Run → Run

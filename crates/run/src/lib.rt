@@ -1,13 +1,13 @@
 // A run: what the server keeps of a show that plays, and its opening.
 ghost use mathlib.Core.Path.{_≡_};
 ghost use Prim.Native.Nat.{_≤_};
-ghost use Rattle.drive.specs.Limits.{Tells};
+ghost use Rattle.show.specs.Limits.{Tells};
 ghost use Rattle.run.specs.Run.{Room, withCycle};
 ghost use Rattle.run.specs.Sound.{Waiting, StateSound};
 ghost use Rattle.run.specs.Opening.{OpenIs, tableOrder, firstRun, noRun};
-use drive::Session;
-use drive::Show;
-use drive::refusal::Check;
+use show::Session;
+use show::Show;
+use show::refusal::Check;
 use verdict::Verdict;
 use verdict::decide;
 

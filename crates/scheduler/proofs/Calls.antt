@@ -4,9 +4,9 @@ use mathlib.Core.Path.{_≡_, sym, ap, _∙_}
 use mathlib.Core.Logic.{if-pos, if-neg}
 use native.Mathlib.Decide.{decLt, ℕ-discrete}
 use native.Mathlib.Omega.{arith}
-use Rattle.drive.specs.declared.refusal.Refusal.the-variants as refusal
-use Rattle.drive.specs.declared.refusal.Check.{Check}
-use Rattle.drive.specs.declared.refusal.Check.the-variants.{Within, Refused}
+use Rattle.show.specs.declared.refusal.Refusal.the-variants as refusal
+use Rattle.show.specs.declared.refusal.Check.{Check}
+use Rattle.show.specs.declared.refusal.Check.the-variants.{Within, Refused}
 use Rattle.run.specs.declared.Underway.the-variants as underway
 use Rattle.run.specs.declared.Run.{Run}
 use Rattle.run.specs.Run.{playing}

@@ -3,7 +3,7 @@ use Prim.Native.Nat.{ℕ, zero, suc, _+_, _-_, _≤_, _<_}
 use mathlib.Core.Path.{_≡_, refl, sym, ap, _∙_}
 use mathlib.Core.Logic.{if-pos, if-neg}
 use native.Mathlib.Omega.{arith}
-use Rattle.drive.specs.declared.refusal.Refusal.the-variants.{PutLimit}
+use Rattle.show.specs.declared.refusal.Refusal.the-variants.{PutLimit}
 use Rattle.run.specs.declared.Underway.the-variants.{Read}
 use Rattle.run.specs.declared.Run.{Run}
 use Rattle.run.specs.Run.{playing, seatAt, wholeAt, onward, RoomAt, PutAt, withCycle}

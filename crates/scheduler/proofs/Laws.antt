@@ -4,11 +4,11 @@ use Prim.Native.Nat.{ℕ, _≤_, _<_}
 use mathlib.Core.Path.{_≡_, refl, sym}
 use native.Mathlib.Decide.{decLt, ℕ-discrete}
 use native.Mathlib.Omega.{arith}
-use Rattle.drive.specs.declared.refusal.Refusal.{Refusal}
-use Rattle.drive.specs.declared.refusal.Refusal.the-variants.{PutLimit}
-use Rattle.drive.specs.declared.refusal.Check.{Check}
-use Rattle.drive.specs.declared.refusal.Check.the-variants.{Within, Refused}
-use Rattle.drive.proofs.Checks.{first-right}
+use Rattle.show.specs.declared.refusal.Refusal.{Refusal}
+use Rattle.show.specs.declared.refusal.Refusal.the-variants.{PutLimit}
+use Rattle.show.specs.declared.refusal.Check.{Check}
+use Rattle.show.specs.declared.refusal.Check.the-variants.{Within, Refused}
+use Rattle.show.proofs.Checks.{first-right}
 use Rattle.run.specs.declared.Underway.the-variants as underway
 use Rattle.run.specs.declared.Run.{Run}
 use Rattle.run.specs.Run.{playing, seatAt, onward, PutAt}

@@ -4,11 +4,11 @@ use mathlib.Core.List.{[], _∷_}
 use mathlib.Core.Logic.{ite}
 use lib.IntN.{pos}
 use native.Mathlib.Decide.{decLt, ℕ-discrete}
-use Rattle.drive.specs.declared.refusal.Refusal.the-variants as refusal
-use Rattle.drive.specs.declared.refusal.Check.{Check}
-use Rattle.drive.specs.declared.refusal.Check.the-variants.{Within, Refused}
-use Rattle.drive.specs.Checks.{first}
-use Rattle.drive.specs.Outcomes.{Outcome, granted, refusedBy}
+use Rattle.show.specs.declared.refusal.Refusal.the-variants as refusal
+use Rattle.show.specs.declared.refusal.Check.{Check}
+use Rattle.show.specs.declared.refusal.Check.the-variants.{Within, Refused}
+use Rattle.show.specs.Checks.{first}
+use Rattle.show.specs.Outcomes.{Outcome, granted, refusedBy}
 use Rattle.run.specs.declared.Run.{Run}
 use Rattle.run.specs.Run.{playing, seatAt, onward}
 use Rattle.run.specs.Decisions.{put?, soundCheck}

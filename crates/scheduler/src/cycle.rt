@@ -7,10 +7,10 @@ ghost use Rattle.run.specs.Steps.{idled, leftAfter};
 ghost use Rattle.scheduler.specs.Answers.{arrived};
 use crate::Choice;
 use crate::Chosen;
-use drive::refusal::Refusal;
 use run::Run;
 use run::State;
 use run::Underway;
+use show::refusal::Refusal;
 
 // Nobody has room: the place has its whole count left again.
 pub(crate) fn idle(mut run: Run) -> Run

@@ -5,11 +5,11 @@ ghost use mathlib.Core.Path.{_≡_};
 ghost use Rattle.scheduler.specs.Answers.{chooseOf};
 use crate::cycle::arrive;
 use crate::cycle::idle;
-use drive::refusal::Refusal;
 use run::Run;
 use run::Underway;
-use sound::Test;
-use sound::test_run;
+use run_test::Test;
+use run_test::test_run;
+use show::refusal::Refusal;
 
 // What to read next.
 pub enum Choice {

@@ -4,16 +4,16 @@ use mathlib.Core.Path.{_≡_}
 use mathlib.Core.List.{List}
 use lib.ListN.{drop}
 use lib.Seq.{drop-drop}
-use Rattle.drive.specs.declared.Layout.{Layout}
-use Rattle.drive.specs.declared.Session.{Session}
-use Rattle.drive.specs.declared.Show.{Show}
-use Rattle.drive.specs.declared.refusal.Check.{Check}
-use Rattle.drive.specs.Limits.{CountsWithin, noLayout, noSession}
-use Rattle.drive.specs.Checks.{limitsCheck, showCheck}
-use Rattle.drive.proofs.Shows.{limits-left}
+use Rattle.show.specs.declared.Layout.{Layout}
+use Rattle.show.specs.declared.Session.{Session}
+use Rattle.show.specs.declared.Show.{Show}
+use Rattle.show.specs.declared.refusal.Check.{Check}
+use Rattle.show.specs.Limits.{CountsWithin, noLayout, noSession}
+use Rattle.show.specs.Checks.{limitsCheck, showCheck}
+use Rattle.show.proofs.Shows.{limits-left}
 use Rattle.showfile.specs.declared.Reading.{Reading}
 use Rattle.showfile.specs.declared.trailer.Trailer.{Trailer}
-use Rattle.drive.specs.Lists.{padded}
+use Rattle.show.specs.Lists.{padded}
 use Rattle.showfile.specs.Bytes.{halfOf, wordOf, rowOf}
 use Rattle.showfile.specs.File.{layoutOf, sessionOf, trailerOf, showFrom}
 use Rattle.showfile.specs.Answers.{reading}

@@ -2,14 +2,14 @@
 use Prim.Native.Nat.{ℕ, _≤_}
 use mathlib.Core.Path.{_≡_, sym, _∙_}
 use native.Mathlib.Decide.{decLe}
-use Rattle.drive.specs.declared.Show.{Show}
-use Rattle.drive.specs.declared.refusal.Check.the-variants.{Within}
-use Rattle.drive.specs.declared.refusal.Refusal.the-variants.{Counts, Distances, NoteLength}
-use Rattle.drive.specs.Limits.{CountsWithin, ShowWithin}
-use Rattle.drive.specs.Decisions.{counts?}
-use Rattle.drive.specs.Checks.{first, countsCheck, limitsCheck}
-use Rattle.drive.proofs.Checks.{unless-kept, unless-within, first-within, first-left, first-right}
-use Rattle.drive.proofs.Shows.{check-within, within-check, limits-left}
+use Rattle.show.specs.declared.Show.{Show}
+use Rattle.show.specs.declared.refusal.Check.the-variants.{Within}
+use Rattle.show.specs.declared.refusal.Refusal.the-variants.{Counts, Distances, NoteLength}
+use Rattle.show.specs.Limits.{CountsWithin, ShowWithin}
+use Rattle.show.specs.Decisions.{counts?}
+use Rattle.show.specs.Checks.{first, countsCheck, limitsCheck}
+use Rattle.show.proofs.Checks.{unless-kept, unless-within, first-within, first-left, first-right}
+use Rattle.show.proofs.Shows.{check-within, within-check, limits-left}
 use Rattle.showfile.specs.declared.trailer.Trailer.{Trailer}
 use Rattle.showfile.specs.Checks.{noteMost, Distanced, distanced?, noteLength, distancesCheck, noteCheck, trailerCheck}
 

@@ -3,14 +3,14 @@ use Prim.Native.Nat.{ℕ, _-_}
 use mathlib.Core.Path.{_≡_, refl, ap}
 use mathlib.Core.List.{List}
 use lib.ListN.{length, drop}
-use Rattle.drive.specs.declared.Show.{Show}
-use Rattle.drive.specs.declared.refusal.Check.{Check}
-use Rattle.drive.specs.declared.refusal.Check.the-variants.{Within, Refused}
-use Rattle.drive.specs.declared.refusal.Refusal.the-variants.{FileLength}
-use Rattle.drive.specs.Limits.{Between, ShowWithin}
-use Rattle.drive.specs.Decisions.{between?}
-use Rattle.drive.specs.Checks.{first, limitsCheck}
-use Rattle.drive.proofs.Checks.{unless-within, first-left, first-right}
+use Rattle.show.specs.declared.Show.{Show}
+use Rattle.show.specs.declared.refusal.Check.{Check}
+use Rattle.show.specs.declared.refusal.Check.the-variants.{Within, Refused}
+use Rattle.show.specs.declared.refusal.Refusal.the-variants.{FileLength}
+use Rattle.show.specs.Limits.{Between, ShowWithin}
+use Rattle.show.specs.Decisions.{between?}
+use Rattle.show.specs.Checks.{first, limitsCheck}
+use Rattle.show.proofs.Checks.{unless-within, first-left, first-right}
 use Rattle.showfile.specs.declared.trailer.Trailer.{Trailer}
 use Rattle.showfile.specs.File.{trailerOf, showFrom}
 use Rattle.showfile.specs.Checks.{fileLeast, fileMost, noteLength, lengthCheck, trailerCheck}

@@ -6,9 +6,9 @@ use native.Mathlib.Numerals.{add-one}
 use native.Mathlib.Omega.{arith}
 use lib.ListN.{length, drop, set, replicate}
 use lib.Seq.{drop-drop}
-use Rattle.drive.specs.Lists.{padded}
+use Rattle.show.specs.Lists.{padded}
 use Rattle.showfile.specs.Bytes.{rowOf}
-use Rattle.drive.proofs.Lists.{padded-none, padded-more}
+use Rattle.show.proofs.Lists.{padded-none, padded-more}
 
 module _ {A : Type 0} (of : List ℕ → A) where
   pub row-length : (n : ℕ) (s : List ℕ) → length (rowOf of n s) ≡ n

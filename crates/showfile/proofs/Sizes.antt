@@ -5,9 +5,9 @@ use mathlib.Core.List.{List}
 use native.Mathlib.Omega.{arith}
 use lib.ListN.{length, take, drop}
 use lib.Seq.{length-take-le}
-use Rattle.drive.specs.declared.Show.{Show}
-use Rattle.drive.specs.declared.refusal.Check.{Check}
-use Rattle.drive.specs.declared.refusal.Check.the-variants.{Within, Refused}
+use Rattle.show.specs.declared.Show.{Show}
+use Rattle.show.specs.declared.refusal.Check.{Check}
+use Rattle.show.specs.declared.refusal.Check.the-variants.{Within, Refused}
 use Rattle.showfile.specs.declared.Reading.{Reading}
 use Rattle.showfile.specs.File.{trailerOf}
 use Rattle.showfile.specs.Checks.{noteLength}

@@ -4,13 +4,13 @@ use mathlib.Core.Path.{_≡_, sym, _∙_}
 use mathlib.Core.List.{List}
 use native.Mathlib.Decide.{decLe}
 use lib.ListN.{length, drop}
-use Rattle.drive.specs.declared.refusal.Check.the-variants.{Within, Refused}
-use Rattle.drive.specs.declared.refusal.Refusal.{Refusal}
-use Rattle.drive.specs.declared.refusal.Refusal.the-variants.{FileLength, Counts, Distances, NoteLength}
-use Rattle.drive.specs.Limits.{Between, CountsWithin, noShow}
-use Rattle.drive.specs.Decisions.{between?, counts?}
-use Rattle.drive.specs.Checks.{limitsCheck}
-use Rattle.drive.proofs.Checks.{unless-kept, unless-broken, first-refused, first-within}
+use Rattle.show.specs.declared.refusal.Check.the-variants.{Within, Refused}
+use Rattle.show.specs.declared.refusal.Refusal.{Refusal}
+use Rattle.show.specs.declared.refusal.Refusal.the-variants.{FileLength, Counts, Distances, NoteLength}
+use Rattle.show.specs.Limits.{Between, CountsWithin, noShow}
+use Rattle.show.specs.Decisions.{between?, counts?}
+use Rattle.show.specs.Checks.{limitsCheck}
+use Rattle.show.proofs.Checks.{unless-kept, unless-broken, first-refused, first-within}
 use Rattle.showfile.specs.declared.trailer.Trailer.{Trailer}
 use Rattle.showfile.specs.File.{trailerOf}
 use Rattle.showfile.specs.Checks.{fileLeast, fileMost, noteMost, Distanced, distanced?, noteLength, trailerCheck}

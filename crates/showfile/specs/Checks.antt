@@ -3,10 +3,10 @@ use Prim.Native.Nat.{ℕ, _+_, _*_, _-_, _≤_}
 use mathlib.Core.Path.{_≡_}
 use mathlib.Core.Logic.{Dec·and}
 use native.Mathlib.Decide.{decLe, ℕ-discrete}
-use Rattle.drive.specs.declared.refusal.Refusal.the-variants.{FileLength, Distances, NoteLength}
-use Rattle.drive.specs.declared.refusal.Check.{Check}
-use Rattle.drive.specs.Decisions.{decided, between?}
-use Rattle.drive.specs.Checks.{unless, first, countsCheck}
+use Rattle.show.specs.declared.refusal.Refusal.the-variants.{FileLength, Distances, NoteLength}
+use Rattle.show.specs.declared.refusal.Check.{Check}
+use Rattle.show.specs.Decisions.{decided, between?}
+use Rattle.show.specs.Checks.{unless, first, countsCheck}
 use Rattle.showfile.specs.declared.trailer.Trailer.{Trailer}
 
 -- the length of the note, which is what precedes the layouts, where the trailer t stands at `at`

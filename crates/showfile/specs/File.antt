@@ -2,12 +2,12 @@
 use Prim.Native.Nat.{ℕ, _+_, _*_}
 use mathlib.Core.List.{List, _++_}
 use lib.ListN.{take, drop}
-use Rattle.drive.specs.declared.Layout.{Layout}
-use Rattle.drive.specs.declared.Session.{Session}
-use Rattle.drive.specs.declared.Show.{Show}
-use Rattle.drive.specs.Limits.{noLayout, noSession}
+use Rattle.show.specs.declared.Layout.{Layout}
+use Rattle.show.specs.declared.Session.{Session}
+use Rattle.show.specs.declared.Show.{Show}
+use Rattle.show.specs.Limits.{noLayout, noSession}
 use Rattle.showfile.specs.declared.trailer.Trailer.{Trailer}
-use Rattle.drive.specs.Lists.{padded}
+use Rattle.show.specs.Lists.{padded}
 use Rattle.showfile.specs.Bytes.{halfOf, wordOf, halfBytes, wordBytes, fourBytes, rowOf, rowBytes}
 
 -- a layout: longest seek, one-track seek, block time, rotation

@@ -6,9 +6,9 @@ pub mod trailer;
 ghost use mathlib.Core.Path.{_≡_};
 ghost use Prim.Native.Nat.{_+_, _*_, _≤_};
 ghost use lib.ListN.{length, drop};
-ghost use Rattle.drive.specs.declared.refusal.Check.the-variants.{Within, Refused};
-ghost use Rattle.drive.specs.Checks.{limitsCheck};
-ghost use Rattle.drive.specs.Limits.{Between, Tells, noShow};
+ghost use Rattle.show.specs.declared.refusal.Check.the-variants.{Within, Refused};
+ghost use Rattle.show.specs.Checks.{limitsCheck};
+ghost use Rattle.show.specs.Limits.{Between, Tells, noShow};
 ghost use Rattle.showfile.specs.File.{showFrom};
 ghost use Rattle.showfile.specs.Checks.{fileLeast, fileMost, noteMost, noteLength, trailerCheck};
 ghost use Rattle.showfile.specs.Answers.{reading, readOf, noteOf, shownAt};
@@ -16,9 +16,9 @@ use crate::rows::get_layouts;
 use crate::rows::get_sessions;
 use crate::trailer::Trailer;
 use crate::trailer::get_trailer;
-use drive::Show;
-use drive::refusal::Check;
-use drive::refusal::Refusal;
+use show::Show;
+use show::refusal::Check;
+use show::refusal::Refusal;
 
 // What reading answers: the show and the length of its note. Refused, both are zeros.
 pub struct Reading {

@@ -2,13 +2,13 @@
 ghost use mathlib.Core.Path.{_≡_};
 ghost use Prim.Native.Nat.{_+_, _*_, _≤_};
 ghost use lib.ListN.{length, drop};
-ghost use Rattle.drive.specs.Limits.{noLayout, noSession};
-ghost use Rattle.drive.specs.Lists.{padded};
+ghost use Rattle.show.specs.Limits.{noLayout, noSession};
+ghost use Rattle.show.specs.Lists.{padded};
 ghost use Rattle.showfile.specs.Bytes.{rowOf};
 ghost use Rattle.showfile.specs.File.{layoutOf, sessionOf};
 use crate::bytes::get_word;
-use drive::Layout;
-use drive::Session;
+use show::Layout;
+use show::Session;
 
 fn get_layout(s: &[u8], at: usize) -> Layout
     requires { ⌜ at + 16 ≤ length (now s) ⌝ }

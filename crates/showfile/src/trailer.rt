@@ -2,16 +2,16 @@
 ghost use mathlib.Core.Path.{_≡_};
 ghost use Prim.Native.Nat.{_+_, _≤_};
 ghost use lib.ListN.{length, drop};
-ghost use Rattle.drive.specs.Limits.{CountsWithin, Tells};
+ghost use Rattle.show.specs.Limits.{CountsWithin, Tells};
 ghost use Rattle.showfile.specs.File.{trailerOf};
 ghost use Rattle.showfile.specs.Checks.{Distanced, trailerCheck};
 use crate::Reading;
 use crate::bytes::get_half;
 use crate::bytes::get_word;
-use drive::Drive;
-use drive::Show;
-use drive::refusal::Check;
-use drive::refusal::Refusal;
+use show::Drive;
+use show::Show;
+use show::refusal::Check;
+use show::refusal::Refusal;
 
 // `far` and `near` are the distances from the trailer's first byte back to the first layout and to the first session.
 pub struct Trailer {

@@ -8,7 +8,7 @@ use lib.IntN.{ℤ, pos, subℕ, _-ℤ_, _*ℤ_}
 use lib.Signed.{mag}
 use mir.Syntax.{w64}
 use mir.Val.{SFits}
-use Rattle.drive.specs.declared.Session.{Session}
+use Rattle.show.specs.declared.Session.{Session}
 use Rattle.theory.specs.Floor.{floorZ}
 use Rattle.theory.proofs.Integers.{sub-ge, sub-lt, sub-pos, sub-less, sub-times}
 use Rattle.run.specs.declared.State.{State}

@@ -9,22 +9,22 @@ use native.Mathlib.Omega.{arith}
 use lib.IntN.{ℤ, pos}
 use lib.ListN.{length}
 use lib.Signed.{_≤ℤ_, _<ℤ_, clashℤ}
-use Rattle.drive.specs.declared.refusal.Refusal.{Refusal}
-use Rattle.drive.specs.declared.refusal.Refusal.the-variants as refusal
-use Rattle.drive.specs.declared.refusal.Check.{Check}
-use Rattle.drive.specs.declared.refusal.Check.the-variants.{Within, Refused}
-use Rattle.drive.specs.Checks.{first}
-use Rattle.drive.proofs.Checks.{within-refused, unless-within, first-left, first-right}
+use Rattle.show.specs.declared.refusal.Refusal.{Refusal}
+use Rattle.show.specs.declared.refusal.Refusal.the-variants as refusal
+use Rattle.show.specs.declared.refusal.Check.{Check}
+use Rattle.show.specs.declared.refusal.Check.the-variants.{Within, Refused}
+use Rattle.show.specs.Checks.{first}
+use Rattle.show.proofs.Checks.{within-refused, unless-within, first-left, first-right}
 use Rattle.theory.specs.Sum.{sumTo}
-use Rattle.theory.specs.Spare.{less?, slackBy}
+use Rattle.theory.specs.Slack.{less?, slackBy}
 use Rattle.theory.proofs.Floor.{floor-from}
-use Rattle.theory.proofs.Spare.{slack-enough, claim-nine, rank-below}
+use Rattle.theory.proofs.Slack.{slack-enough, claim-nine, rank-below}
 use Rattle.run.specs.declared.Underway.the-variants as underway
 use Rattle.run.specs.declared.Run.{Run}
 use Rattle.run.specs.Run.{playing, stateAt, clipAt}
 use Rattle.run.specs.Sound.{SoundRun}
 use Rattle.run.specs.Decisions.{false?, sound?, soundCheck}
-use Rattle.run.specs.Answers.{moved, sessionCheck, freeCheck}
+use Rattle.run.specs.Answers.{moved, presentCheck, freeCheck}
 use Rattle.run.specs.Laws.{Ahead}
 use Rattle.run.proofs.States.{true-false}
 use Rattle.run.proofs.Steps.{nothing-read}
@@ -169,8 +169,8 @@ time-told (Refused w) z y r e = absurd (let z : _≡_ {A = ℕ} 0 1 = cc in let 
 pub workahead-told : (r : Run) (i : ℕ) (y : ℤ) → workaheadOf r i .spare ≡ spare.Time y → (i < playing r) × (y ≡ aheadAt r i)
 unfolding workaheadOf
 workahead-told r i y e =
-    let t = time-told (first (soundCheck r) (sessionCheck r i)) (aheadAt r i) y r e in
-    (unless-within (decLt i (playing r)) refusal.NoSession (first-right (soundCheck r) (sessionCheck r i) (t .0)), t .1)
+    let t = time-told (first (soundCheck r) (presentCheck r i)) (aheadAt r i) y r e in
+    (unless-within (decLt i (playing r)) refusal.NoSession (first-right (soundCheck r) (presentCheck r i) (t .0)), t .1)
 
 pub slack-told : (r : Run) (y : ℤ) → slackOf r .spare ≡ spare.Time y → (0 < playing r) × (y ≡ slackTime r)
 unfolding slackOf

@@ -9,12 +9,12 @@ use lib.Signed.{_≤ℤ_}
 use Rattle.theory.specs.Lighter.{Lighter}
 use Rattle.theory.specs.Floor.{floorZ}
 use Rattle.theory.specs.Shows.{loadOf}
-use Rattle.theory.specs.Spare.{rank}
+use Rattle.theory.specs.Slack.{rank}
 use Rattle.theory.proofs.Floor.{floor-rises, floor-grows, floor-sign}
 use Rattle.theory.proofs.Integers.{sub-le}
 use Rattle.theory.proofs.Lighter.{lighter-times}
 use Rattle.theory.proofs.Shows.{show-sound, lightened-lighter}
-use Rattle.theory.proofs.Spare.{slack-ahead, slack-lighter}
+use Rattle.theory.proofs.Slack.{slack-ahead, slack-lighter}
 use Rattle.verdict.specs.Answers.{setOf}
 use Rattle.run.specs.declared.State.{State}
 use Rattle.run.specs.declared.Run.{Run}

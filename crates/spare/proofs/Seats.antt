@@ -12,10 +12,10 @@ use lib.ListN.{length, getD}
 use lib.Signed.{_≤ℤ_, _<ℤ_}
 use Rattle.cost.specs.Bound.{worstMost}
 use Rattle.theory.specs.Sum.{sumWhere}
-use Rattle.theory.specs.Spare.{leastTo, loadBy, spareBy, slackBy}
+use Rattle.theory.specs.Slack.{leastTo, loadBy, spareBy, slackBy}
 use Rattle.theory.proofs.Integers.{≤ℤ-antisymm}
 use Rattle.theory.proofs.Sum.{sum-capped, sum-changed, where-most, where-same}
-use Rattle.theory.proofs.Spare.{least-first, least-less, least-more, least-most, attained, slack-from, slack-least}
+use Rattle.theory.proofs.Slack.{least-first, least-less, least-more, least-most, attained, slack-from, slack-least}
 use Rattle.verdict.specs.Answers.{setOf}
 use Rattle.run.proofs.Orders.{names-below}
 use Rattle.spare.specs.declared.standing.Standing.{Standing}
@@ -110,7 +110,7 @@ module _ (p : ℕ → ℕ) (n : ℕ) (l : List ℕ) (few : n ≤ length l) (belo
       (record { below = below; inside = named-inside; placed = placed; seated = back })
 
 -- Of the sessions at the first k places: their times come to `sum`, and `least` is the least that one of them has to spare.
-pub record Turned (s : Standing) (o : List ℕ) (sum : ℕ) (least : ℤ) (k : ℕ) : Type 0 where
+pub record LeastTo (s : Standing) (o : List ℕ) (sum : ℕ) (least : ℤ) (k : ℕ) : Type 0 where
   pub some : 0 < k
   pub inside : k ≤ s .playing
   pub times : sum ≡ loadTo (placeIn (s .places)) (setOf (s .times)) (s .playing) k
@@ -158,7 +158,7 @@ module _ (s : Standing) (o : List ℕ) (h : Seated (placeIn (s .places)) (seatIn
 
   pub turned-first :
       (x : ℤ) → 0 < s .playing → x ≡ aheadIn (s .aheads) (seatIn o 0) -ℤ pos (setOf (s .times) (seatIn o 0)) →
-      Turned s o (setOf (s .times) (seatIn o 0)) x 1
+      LeastTo s o (setOf (s .times) (seatIn o 0)) x 1
   turned-first x z g =
       record {
         some = omega arith;
@@ -167,12 +167,12 @@ module _ (s : Standing) (o : List ℕ) (h : Seated (placeIn (s .places)) (seatIn
         is = turn-spare 0 _ x z (turn-first z) g ∙ sym (least-first (λ m. spareIn s (seatIn o m)));
       }
 
-  module _ (sum : ℕ) (least x : ℤ) (k : ℕ) (t : Turned s o sum least k) (l : k < s .playing)
+  module _ (sum : ℕ) (least x : ℤ) (k : ℕ) (t : LeastTo s o sum least k) (l : k < s .playing)
       (g : x ≡ aheadIn (s .aheads) (seatIn o k) -ℤ pos (sum + setOf (s .times) (seatIn o k))) where
     spare : x ≡ spareIn s (seatIn o k)
     spare = turn-spare k _ x l (turn-next sum k l (t .times)) g
 
-    pub turned-less : x <ℤ least → Turned s o (sum + setOf (s .times) (seatIn o k)) x (k + 1)
+    pub turned-less : x <ℤ least → LeastTo s o (sum + setOf (s .times) (seatIn o k)) x (k + 1)
     turned-less b =
         record {
           some = omega arith;
@@ -181,7 +181,7 @@ module _ (s : Standing) (o : List ℕ) (h : Seated (placeIn (s .places)) (seatIn
           is = spare ∙ sym (least-less (λ m. spareIn s (seatIn o m)) k (t .some) (rw (spare, t .is) at b));
         }
 
-    pub turned-more : (x <ℤ least → ⊥) → Turned s o (sum + setOf (s .times) (seatIn o k)) least (k + 1)
+    pub turned-more : (x <ℤ least → ⊥) → LeastTo s o (sum + setOf (s .times) (seatIn o k)) least (k + 1)
     turned-more b =
         record {
           some = omega arith;
@@ -190,7 +190,7 @@ module _ (s : Standing) (o : List ℕ) (h : Seated (placeIn (s .places)) (seatIn
           is = t .is ∙ sym (least-more (λ m. spareIn s (seatIn o m)) k (t .some) (rw (spare, t .is) at b));
         }
 
-  pub turned-all : (sum : ℕ) (least : ℤ) (k : ℕ) → Turned s o sum least k → s .playing ≤ k → least ≡ slackIn s
+  pub turned-all : (sum : ℕ) (least : ℤ) (k : ℕ) → LeastTo s o sum least k → s .playing ≤ k → least ≡ slackIn s
   turned-all sum least k t l =
       let e : k ≡ s .playing = (let i = t .inside in omega arith) in
       t .is

@@ -8,15 +8,15 @@ use lib.IntN.{ℤ, pos, negsuc, _-ℤ_}
 use lib.Signed.{mag}
 use mir.Syntax.{w64}
 use mir.Val.{SFits}
-use Rattle.drive.proofs.Lists.{filled-at}
+use Rattle.show.proofs.Lists.{filled-at}
 use Rattle.cost.specs.Bound.{worstMost}
 use Rattle.cost.proofs.Bound.{worst-capped}
 use Rattle.cost.proofs.Costs.{cost-limited}
-use Rattle.theory.specs.Spare.{rank}
+use Rattle.theory.specs.Slack.{rank}
 use Rattle.theory.specs.Shows.{loadOf}
 use Rattle.theory.proofs.Integers.{sub-pos, sub-less, from-negsuc}
 use Rattle.theory.proofs.Shows.{feasible-few}
-use Rattle.theory.proofs.Spare.{slack-same, rank-same, rank-below, rank-apart}
+use Rattle.theory.proofs.Slack.{slack-same, rank-same, rank-below, rank-apart}
 use Rattle.verdict.specs.declared.Trial.{Trial}
 use Rattle.verdict.specs.Answers.{TrialIs, holds, setOf, timesOf}
 use Rattle.verdict.proofs.Once.{trial-once}

@@ -4,16 +4,16 @@ use mathlib.Core.List.{[], _∷_}
 use mathlib.Core.Logic.{ite}
 use native.Mathlib.Decide.{decLt}
 use lib.IntN.{ℤ, pos}
-use Rattle.drive.specs.declared.refusal.Refusal.the-variants as refusal
-use Rattle.drive.specs.declared.refusal.Check.{Check}
-use Rattle.drive.specs.declared.refusal.Check.the-variants.{Within, Refused}
-use Rattle.drive.specs.Checks.{unless, first}
-use Rattle.drive.specs.Outcomes.{Outcome, granted, refusedBy}
-use Rattle.theory.specs.Spare.{less?}
+use Rattle.show.specs.declared.refusal.Refusal.the-variants as refusal
+use Rattle.show.specs.declared.refusal.Check.{Check}
+use Rattle.show.specs.declared.refusal.Check.the-variants.{Within, Refused}
+use Rattle.show.specs.Checks.{unless, first}
+use Rattle.show.specs.Outcomes.{Outcome, granted, refusedBy}
+use Rattle.theory.specs.Slack.{less?}
 use Rattle.run.specs.declared.Run.{Run}
 use Rattle.run.specs.Run.{playing}
 use Rattle.run.specs.Decisions.{false?, soundCheck}
-use Rattle.run.specs.Answers.{moved, sessionCheck, freeCheck}
+use Rattle.run.specs.Answers.{moved, presentCheck, freeCheck}
 use Rattle.run.specs.declared.Moved.{Moved}
 use Rattle.spare.specs.declared.Spare.{Spare}
 use Rattle.spare.specs.declared.Spare.the-variants as spare
@@ -27,7 +27,7 @@ spared (Refused w) z r = record { spare = spare.Refused w; run = r }
 
 -- 19, 9
 unfoldable pub workaheadOf : Run → ℕ → Spared
-workaheadOf r i = spared (first (soundCheck r) (sessionCheck r i)) (aheadAt r i) r
+workaheadOf r i = spared (first (soundCheck r) (presentCheck r i)) (aheadAt r i) r
 
 -- 9: an empty show
 abbrev pub someCheck : Run → Check

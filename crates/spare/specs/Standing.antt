@@ -6,9 +6,9 @@ use mathlib.Core.List.{List}
 use lib.ListN.{getD}
 use lib.IntN.{ℤ, pos}
 use lib.Signed.{_<ℤ_, mag}
-use Rattle.drive.specs.Lists.{listed, padded}
+use Rattle.show.specs.Lists.{listed, padded}
 use Rattle.cost.specs.Bound.{worstMost}
-use Rattle.theory.specs.Spare.{rank, spareBy, slackBy}
+use Rattle.theory.specs.Slack.{rank, spareBy, slackBy}
 use Rattle.theory.specs.Shows.{loadOf}
 use Rattle.verdict.specs.Answers.{setOf, timesOf}
 use Rattle.run.specs.declared.Run.{Run}

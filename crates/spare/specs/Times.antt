@@ -4,9 +4,9 @@ use mathlib.Core.Bool.{true}
 use mathlib.Core.List.{List}
 use lib.ListN.{getD, set}
 use lib.IntN.{ℤ, pos, _-ℤ_, _*ℤ_}
-use Rattle.drive.specs.declared.Session.{Session}
+use Rattle.show.specs.declared.Session.{Session}
 use Rattle.theory.specs.Floor.{floorZ}
-use Rattle.theory.specs.Spare.{rank, slack}
+use Rattle.theory.specs.Slack.{rank, slack}
 use Rattle.theory.specs.Shows.{loadOf}
 use Rattle.run.specs.declared.State.{State}
 use Rattle.run.specs.declared.Run.{Run}

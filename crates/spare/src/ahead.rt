@@ -6,9 +6,9 @@ ghost use Rattle.run.specs.Run.{putMost};
 ghost use Rattle.run.specs.Sound.{SoundRun};
 ghost use Rattle.spare.specs.Times.{aheadOf};
 ghost use Rattle.spare.specs.Standing.{aheadsOf};
-use drive::Session;
 use run::Run;
 use run::State;
+use show::Session;
 
 // x / r rounded down: toward zero, and one less where the remainder is below zero.
 fn floor_div(x: i64, r: u32) -> i64

@@ -15,13 +15,13 @@ use crate::ahead::ahead;
 use crate::order::ordered;
 use crate::standing::least;
 use crate::standing::survey;
-use drive::refusal::Check;
-use drive::refusal::Refusal;
 use run::Moved;
 use run::Run;
 use run::Underway;
-use sound::Test;
-use sound::test_run;
+use run_test::Test;
+use run_test::test_run;
+use show::refusal::Check;
+use show::refusal::Refusal;
 
 // A time in µs, which may be below zero, or why there is none.
 pub enum Spare {

@@ -38,8 +38,8 @@ pub(crate) fn survey(run: Run) -> Standing
     }
 }
 
-// A workahead minus the times up to and including its own.
-fn taken(ahead: i64, load: u64) -> i64
+// A workahead, net of the times up to and including its own.
+fn net(ahead: i64, load: u64) -> i64
     requires { ⌜ (mag ahead < 2 ^ 62) × (load ≤ 2 ^ 61) ⌝ }
     ensures { λ r. ⌜ r ≡ ahead -ℤ pos load ⌝ }
 {
@@ -57,12 +57,12 @@ pub(crate) fn least(s: Standing) -> i64
     let seats = ordered(none, places, s.playing);
     let first = seats[0] as usize;
     let mut sum = s.times[first];
-    let mut least = taken(s.aheads[first], sum);
+    let mut least = net(s.aheads[first], sum);
     let mut k: usize = 1;
     while k < s.playing {
         let i = seats[k] as usize;
         let load = sum + s.times[i];
-        let spare = taken(s.aheads[i], load);
+        let spare = net(s.aheads[i], load);
         if spare < least {
             least = spare;
         }

@@ -4,13 +4,13 @@ use mathlib.Core.List.{List, _++_, append-assoc}
 use Prim.Native.Nat.{ℕ, _+_, _≤_}
 use native.Mathlib.Omega.{arith}
 use lib.ListN.{length, length-append}
-use Rattle.drive.specs.declared.refusal.Refusal.{Refusal}
-use Rattle.drive.specs.declared.refusal.Told.{Told}
-use Rattle.drive.specs.Refusals.{numberOf, placeOf, toldOf}
+use Rattle.show.specs.declared.refusal.Refusal.{Refusal}
+use Rattle.show.specs.declared.refusal.Told.{Told}
+use Rattle.show.specs.Refusals.{numberOf, placeOf, toldOf}
 use Rattle.text.specs.Ascii.{ascii}
 use Rattle.text.specs.Decimal.{decimal}
 use Rattle.text.specs.Lines.{paired, twoLine, refusedText}
-use Rattle.text.specs.Puts.{putOver, putTo, Room, Put}
+use Rattle.text.specs.Puts.{putOver, putTo, FitsAt, Put}
 use Rattle.text.proofs.Digits.{decimal-most}
 use Rattle.text.proofs.Puts.{room-as, room-put, put-as, answer-then}
 
@@ -32,7 +32,7 @@ refusal-made w t e = ap (λ (x : Told). twoLine (ascii "refused ") (x .number) (
 -- The first number with the words around it, then the second with those after it, where the calls answer so and there is room, are both.
 pub pair-put :
     (before : List ℕ) (a : ℕ) (between : List ℕ) (b : ℕ) (end : List ℕ) {was mid after : List ℕ} {at to next : ℕ} →
-    Room was at (paired before a between b end) → length mid ≡ length was →
+    FitsAt was at (paired before a between b end) → length mid ≡ length was →
     (mid ≡ putOver was at (before ++ (decimal a ++ between))) × (to ≡ putTo was at (before ++ (decimal a ++ between))) →
     (after ≡ putOver mid to (decimal b ++ end)) × (next ≡ putTo mid to (decimal b ++ end)) → Put was at (paired before a between b end) after next
 pair-put before a between b end room k e f =

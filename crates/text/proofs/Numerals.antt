@@ -8,7 +8,7 @@ use native.Mathlib.Omega.{arith}
 use lib.Dec.{lit<}
 use lib.ListN.{length, getD, length-append, List·getD-append}
 use lib.Seq.{getD-at}
-use Rattle.drive.specs.Limits.{Between}
+use Rattle.show.specs.Limits.{Between}
 use Rattle.text.specs.Decimal.{digits, decimal}
 use Rattle.text.specs.Numerals.{spelled, Numeral}
 use Rattle.text.proofs.Digits.{digits-last, digits-more, tenth}

@@ -11,12 +11,12 @@ use lib.ListN.{length, take, drop, set, length-append, length-take}
 use lib.Seq.{take-set-le, set-split, drop-at}
 use Rattle.showfile.specs.Bytes.{over}
 use Rattle.showfile.proofs.ByteLaws.{one-over, over-nothing, over-then}
-use Rattle.text.specs.Puts.{putOver, putTo, Room, Put}
+use Rattle.text.specs.Puts.{putOver, putTo, FitsAt, Put}
 
 -- ---- what a call answers
 
 -- where there is room ..
-module _ {was : List ℕ} {at : ℕ} {t : List ℕ} (room : Room was at t) where
+module _ {was : List ℕ} {at : ℕ} {t : List ℕ} (room : FitsAt was at t) where
   over-room : putOver was at t ≡ over was at t
   unfolding putOver
   over-room = if-pos (decLe (at + length t) (length was)) (room .fits) _ _
@@ -45,7 +45,7 @@ module _ (was : List ℕ) (at : ℕ) (t : List ℕ) (none : at + length t ≤ le
 put-none : (was : List ℕ) (at : ℕ) → Put was at [] was at
 put-none was at = record { bytes = over-nothing was at; upto = sym (add-zero at) }
 
-pub put-one : (was : List ℕ) (at b : ℕ) → Room was at (b ∷ []) → Put was at (b ∷ []) (set was at b) (at + 1)
+pub put-one : (was : List ℕ) (at b : ℕ) → FitsAt was at (b ∷ []) → Put was at (b ∷ []) (set was at b) (at + 1)
 put-one was at b room = record { bytes = one-over was at b (room .fits); upto = refl }
 
 -- a byte stored behind a text that is then put is part of it
@@ -64,16 +64,16 @@ over-behind b at t d h =
 pub put-as : {was after t u : List ℕ} {at next : ℕ} → t ≡ u → Put was at t after next → Put was at u after next
 put-as {was} {after} {at = at} {next = next} e p = subst (λ (x : List ℕ). Put was at x after next) e p
 
-pub room-as : {was t u : List ℕ} {at : ℕ} → t ≡ u → Room was at t → Room was at u
-room-as {was} {at = at} e r = subst (λ (x : List ℕ). Room was at x) e r
+pub room-as : {was t u : List ℕ} {at : ℕ} → t ≡ u → FitsAt was at t → FitsAt was at u
+room-as {was} {at = at} e r = subst (λ (x : List ℕ). FitsAt was at x) e r
 
 -- One text and then another: there is room for the first, after it for the second, and both are then put.
-module _ {was : List ℕ} {at : ℕ} (t u : List ℕ) (room : Room was at (t ++ u)) where
-  pub room-first : Room was at t
+module _ {was : List ℕ} {at : ℕ} (t u : List ℕ) (room : FitsAt was at (t ++ u)) where
+  pub room-first : FitsAt was at t
   room-first = record { fits = (let r = room .fits in omega (arith, length-append t u)) }
 
   module _ {mid : List ℕ} {to : ℕ} (p : Put was at t mid to) where
-    pub room-then : length mid ≡ length was → Room mid to u
+    pub room-then : length mid ≡ length was → FitsAt mid to u
     room-then k =
         record { fits = (let r = room .fits in let i = p .upto in omega (arith, length-append t u)) }
 
@@ -90,7 +90,7 @@ module _ {was : List ℕ} {at : ℕ} (t u : List ℕ) (room : Room was at (t ++ 
   -- The same of a call that answers for the first, with what is then said of the second.
   pub answer-then :
       {mid after : List ℕ} {to next : ℕ} → (mid ≡ putOver was at t) × (to ≡ putTo was at t) → length mid ≡ length was →
-      (Room mid to u → Put mid to u after next) → Put was at (t ++ u) after next
+      (FitsAt mid to u → Put mid to u after next) → Put was at (t ++ u) after next
   answer-then e k rest = let p = room-put room-first (e .0) (e .1) in put-then p (rest (room-then p k))
 
 -- Pieces put one after the other: those below i so far, n in all.
@@ -117,12 +117,12 @@ module _ (was : List ℕ) (at : ℕ) (so-far : ℕ → List ℕ) (n : ℕ) where
         rw (← add-one k) (omega arith)))
         n h (le-refl n)
 
-    module _ (room : Room was at (so-far n)) (out : List ℕ) (i next : ℕ) (h : PutTo was at so-far n out i next) (l : i < n) where
-      room-up : Room was at (so-far i ++ piece i)
+    module _ (room : FitsAt was at (so-far n)) (out : List ℕ) (i next : ℕ) (h : PutTo was at so-far n out i next) (l : i < n) where
+      room-up : FitsAt was at (so-far i ++ piece i)
       room-up =
           room-as (more i l) (record { fits = (let r = room .fits in let g = longer (i + 1) (omega arith) in omega arith) })
 
-      pub piece-room : Room out next (piece i)
+      pub piece-room : FitsAt out next (piece i)
       piece-room = room-then (so-far i) (piece i) room-up (h .put) (h .same)
 
       pub piece-put :

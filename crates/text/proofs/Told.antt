@@ -4,7 +4,7 @@ use mathlib.Core.Path.{_≡_, refl, ap, _∙_}
 use mathlib.Core.List.{List}
 use native.Mathlib.Omega.{arith}
 use lib.ListN.{length}
-use Rattle.drive.specs.declared.refusal.Check.the-variants.{Within}
+use Rattle.show.specs.declared.refusal.Check.the-variants.{Within}
 use Rattle.showfile.specs.declared.Written.{Written}
 use Rattle.showfile.specs.Answers.{written, writtenOver}
 use Rattle.showfile.proofs.ByteLaws.{over-front}

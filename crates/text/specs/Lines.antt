@@ -1,8 +1,8 @@
 -- The lines that more than one text has, as bytes: docs/RULES.md, section 8.
 use Prim.Native.Nat.{ℕ}
 use mathlib.Core.List.{List, _++_}
-use Rattle.drive.specs.declared.refusal.Refusal.{Refusal}
-use Rattle.drive.specs.Refusals.{numberOf, placeOf}
+use Rattle.show.specs.declared.refusal.Refusal.{Refusal}
+use Rattle.show.specs.Refusals.{numberOf, placeOf}
 use Rattle.text.specs.Ascii.{ascii}
 use Rattle.text.specs.Decimal.{decimal}
 

@@ -4,7 +4,7 @@ use Prim.Native.Nat.{ℕ, _+_, _*_, _-_, _≤_, _<_}
 use mathlib.Core.Path.{_≡_}
 use mathlib.Core.List.{List, [], _∷_}
 use lib.ListN.{length, getD}
-use Rattle.drive.specs.Limits.{Between}
+use Rattle.show.specs.Limits.{Between}
 
 -- the number that digits spell, behind those that spell n
 unfoldable pub spelled : ℕ → List ℕ → ℕ

@@ -16,7 +16,7 @@ unfoldable pub putTo : List ℕ → ℕ → List ℕ → ℕ
 putTo b at t = ite (decLe (at + length t) (length b)) (at + length t) at
 
 -- a text fits from `at` on
-pub record Room (b : List ℕ) (at : ℕ) (text : List ℕ) : Type 0 where
+pub record FitsAt (b : List ℕ) (at : ℕ) (text : List ℕ) : Type 0 where
   pub fits : at + length text ≤ length b
 
 -- text was put from `at` on; it ends before `next`, and all else is as it was

@@ -2,8 +2,8 @@
 use Prim.Native.Nat.{ℕ, _≤_, _<_}
 use mathlib.Core.List.{List}
 use lib.ListN.{length}
-use Rattle.drive.specs.declared.refusal.Refusal.the-variants.{BufferShort}
-use Rattle.drive.specs.declared.refusal.Check.the-variants.{Within, Refused}
+use Rattle.show.specs.declared.refusal.Refusal.the-variants.{BufferShort}
+use Rattle.show.specs.declared.refusal.Check.the-variants.{Within, Refused}
 use Rattle.showfile.specs.declared.Written.{Written}
 use Rattle.showfile.specs.Answers.{written, writtenOver}
 use Rattle.text.specs.Puts.{Put}

@@ -4,9 +4,9 @@ ghost use mathlib.Core.Path.{_≡_};
 ghost use mathlib.Core.List.{_∷_, _++_, []};
 ghost use Prim.Native.Nat.{_+_, _≤_, _<_};
 ghost use lib.ListN.{length};
-ghost use Rattle.drive.specs.Limits.{Tells};
+ghost use Rattle.show.specs.Limits.{Tells};
 ghost use Rattle.text.specs.Decimal.{decimal};
-ghost use Rattle.text.specs.Puts.{putOver, putTo, Room, Put};
+ghost use Rattle.text.specs.Puts.{putOver, putTo, FitsAt, Put};
 
 // A word.
 pub fn put_word(out: &mut [u8], at: usize, word: &[u8]) -> usize
@@ -84,7 +84,7 @@ fn short_width(n: u64) -> usize
 }
 
 fn put_byte(out: &mut [u8], at: usize, b: u8) -> usize
-    requires { ⌜ Room (now out) at (b ∷ []) ⌝ }
+    requires { ⌜ FitsAt (now out) at (b ∷ []) ⌝ }
     ensures { λ r. ⌜ Put (now (out .entry)) at (b ∷ []) (now (out .exit)) r ⌝ }
 {
     out[at] = b;
@@ -92,7 +92,7 @@ fn put_byte(out: &mut [u8], at: usize, b: u8) -> usize
 }
 
 fn put_bytes(out: &mut [u8], at: usize, word: &[u8]) -> usize
-    requires { ⌜ Room (now out) at (now word) ⌝ }
+    requires { ⌜ FitsAt (now out) at (now word) ⌝ }
     ensures { λ r. ⌜ Put (now (out .entry)) at (now (word .entry)) (now (out .exit)) r ⌝ }
 {
     let n = word.len();
@@ -107,7 +107,7 @@ fn put_bytes(out: &mut [u8], at: usize, word: &[u8]) -> usize
 
 // The digits of a number, backwards from where they end.
 fn put_decimal(out: &mut [u8], at: usize, digits: usize, n: u64) -> usize
-    requires { ⌜ Room (now out) at (decimal n) ⌝ }
+    requires { ⌜ FitsAt (now out) at (decimal n) ⌝ }
     requires { ⌜ digits ≡ length (decimal n) ⌝ }
     ensures { λ r. ⌜ Put (now (out .entry)) at (decimal n) (now (out .exit)) r ⌝ }
 {

@@ -9,7 +9,7 @@ use lib.Dec.{T, leb→le, le→leb, ltb→lt, lt→ltb}
 use lib.IntN.{ℤ, pos, negsuc, negℤ, subℕ, _+ℤ_, _-ℤ_, _*ℤ_, +ℤ-assoc, +ℤ-comm, negℤ-+ℤ}
 use lib.Signed.{_≤ℤ_, _<ℤ_, ltZ, leZ-yes, ltZ-yes, ltZ-no, <ℤ-≤ℤ-trans, clashℤ}
 use borrow.Author.Tests.{lt-ltb, le-ltb}
-use Rattle.theory.specs.Spare.{less?}
+use Rattle.theory.specs.Slack.{less?}
 
 -- ---- the order
 

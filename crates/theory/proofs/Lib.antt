@@ -1,7 +1,7 @@
 pub mod Sum
 pub mod Integers
 pub mod Floor
-pub mod Spare
+pub mod Slack
 pub mod Search
 pub mod Rounds
 pub mod Overload

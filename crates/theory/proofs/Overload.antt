@@ -49,9 +49,9 @@ module _ (l : Load) (s : Sound l) where
           (rw (← sum-times (λ i. l .stream i .time (m i)) (l .cylinder) (l .playing))
           (sum-grows _ _ (l .playing) (λ i b. rw (mul-comm (l .stream i .time (m i)) (l .cylinder)) (s .laws i b .low (m i)))))
 
-  -- K, the sum of every session's weight and spare: K x D is a time that sustains, where the load is light.
+  -- K, the sum of every session's weight and surplus: K x D is a time that sustains, where the load is light.
   ample : ℕ
-  ample = sumTo (λ i. l .stream i .weight + l .stream i .spare) (l .playing)
+  ample = sumTo (λ i. l .stream i .weight + l .stream i .surplus) (l .playing)
 
   -- N L <= V K + K <= N D K: each session is asked for R K + 1 blocks.
   ample-sustains : wholeLoad l < l .cylinder * unit l → Sustains l (ample * unit l)
@@ -76,7 +76,7 @@ module _ (l : Load) (s : Sound l) where
 
       each : (i : ℕ) → i < l .playing →
           l .stream i .time (asked l (ample * unit l) i) * l .cylinder
-          ≤ l .stream i .rate * l .stream i .weight * ample + (l .stream i .weight + l .stream i .spare)
+          ≤ l .stream i .rate * l .stream i .weight * ample + (l .stream i .weight + l .stream i .surplus)
       each i b =
           rw (asks i)
           (omega (
@@ -93,7 +93,7 @@ module _ (l : Load) (s : Sound l) where
             arith,
             sum-grows _ _ (l .playing) each,
             sum-times (λ i. l .stream i .time (asked l (ample * unit l) i)) (l .cylinder) (l .playing),
-            sum-plus (λ i. l .stream i .rate * l .stream i .weight * ample) (λ i. l .stream i .weight + l .stream i .spare) (l .playing),
+            sum-plus (λ i. l .stream i .rate * l .stream i .weight * ample) (λ i. l .stream i .weight + l .stream i .surplus) (l .playing),
             sum-times (λ i. l .stream i .rate * l .stream i .weight) ample (l .playing),
           )
 

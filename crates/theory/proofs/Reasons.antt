@@ -6,7 +6,7 @@ use mathlib.Core.Logic.{_⊎_, inl, inr, if-pos, if-neg}
 use native.Mathlib.Omega.{arith}
 use native.Mathlib.Nat.{le-trans}
 use native.Mathlib.Decide.{decLe, decLt, ℕ-discrete}
-use Rattle.drive.specs.Faults.{Lowest}
+use Rattle.show.specs.Faults.{Lowest}
 use Rattle.theory.specs.Counts.{Load, Sound, unit, needed, Feasible, Good, Accepted, Smallest, wholeLoad, Overloaded}
 use Rattle.theory.specs.Rounds.{asked, LeastTime, Fits}
 use Rattle.theory.specs.Reasons.{withBuffers, widened, withBuffer, NeverKeepsUp, Beyond, TooSmall}

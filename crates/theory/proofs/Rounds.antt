@@ -5,7 +5,7 @@ use mathlib.Core.Path.{_≡_, _∙_, ap}
 use native.Mathlib.Omega.{arith}
 use native.Mathlib.Nat.{le-refl, le-trans, le-antisymm, lt-of-le-of-lt, mul-add, mul-left-comm, mul-le-mul, mul-le-mul-left, mul-le-mul-right, mul-add-div, div-lt-iff-lt-mul}
 use native.Mathlib.Decide.{decLe}
-use Rattle.drive.specs.Limits.{blockLeast, bufferMost}
+use Rattle.show.specs.Limits.{blockLeast, bufferMost}
 use Rattle.cost.specs.Bound.{countMost}
 use Rattle.cost.proofs.Bound.{bound-grows}
 use Rattle.theory.specs.Counts.{Load, Sound, unit, roundTime, needed, Augmenting, Feasible, Good, Accepted, Smallest}

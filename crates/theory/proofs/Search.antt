@@ -4,7 +4,7 @@ use mathlib.Core.Path.{_≡_, subst}
 use mathlib.Core.Logic.{_⊎_, inl, inr}
 use native.Mathlib.Omega.{arith}
 use native.Mathlib.Decide.{decLe, decLt}
-use Rattle.drive.specs.Faults.{Lowest}
+use Rattle.show.specs.Faults.{Lowest}
 
 -- Where some number has p, and it is told of each whether it has, one is the least.
 pub least-of : (p : ℕ → Type 0) → ((n : ℕ) → Dec (p n)) → (n : ℕ) → p n → (m : ℕ) × p m × ((k : ℕ) → p k → m ≤ k)

@@ -8,11 +8,11 @@ use native.Mathlib.Nat.{le-of-eq, le-trans, add-le-add, mul-le-mul}
 use native.Mathlib.Decide.{decLt}
 use lib.ListN.{length, take, drop, getD, length-drop, List·getD-append}
 use lib.Seq.{getD-append-add, getD-take, getD-drop, length-take-le}
-use Rattle.drive.specs.declared.Drive.{Drive}
-use Rattle.drive.specs.declared.Layout.{Layout}
-use Rattle.drive.specs.declared.Session.{Session}
-use Rattle.drive.specs.declared.Show.{Show}
-use Rattle.drive.specs.Limits.{ShowWithin, Alike, layoutAt, sessionAt, noSession}
+use Rattle.show.specs.declared.Drive.{Drive}
+use Rattle.show.specs.declared.Layout.{Layout}
+use Rattle.show.specs.declared.Session.{Session}
+use Rattle.show.specs.declared.Show.{Show}
+use Rattle.show.specs.Limits.{ShowWithin, Alike, layoutAt, sessionAt, noSession}
 use Rattle.cost.specs.Bound.{Cheaper, worstTime, countMost}
 use Rattle.cost.specs.Costs.{costOf}
 use Rattle.cost.proofs.Bound.{worst-cheaper}

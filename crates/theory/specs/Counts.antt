@@ -3,14 +3,14 @@ use Prim.Native.Nat.{ℕ, _+_, _*_, _≤_, _<_}
 use Rattle.cost.specs.Bound.{BoundLaws}
 use Rattle.theory.specs.Sum.{sumTo}
 
--- A session as the verdict sees it: R, Y, B and its worst time U, with what U weighs and has to spare.
+-- A session as the verdict sees it: R, Y, B and its worst time U, with its weight and its surplus.
 pub record Stream : Type 0 where
   pub rate : ℕ
   pub cushion : ℕ
   pub buffer : ℕ
   pub time : ℕ → ℕ
   pub weight : ℕ
-  pub spare : ℕ
+  pub surplus : ℕ
 
 -- A show as the verdict sees it: A, N, how many sessions play, and each.
 pub record Load : Type 0 where
@@ -23,7 +23,7 @@ pub record Load : Type 0 where
 pub record Sound (l : Load) : Type 0 where
   pub block : 1 ≤ l .block
   pub cylinder : 1 ≤ l .cylinder
-  pub laws : (i : ℕ) → i < l .playing → BoundLaws (l .cylinder) (l .stream i .weight) (l .stream i .spare) (l .stream i .time)
+  pub laws : (i : ℕ) → i < l .playing → BoundLaws (l .cylinder) (l .stream i .weight) (l .stream i .surplus) (l .stream i .time)
 
 -- A x 1,000,000: the microbytes of a block
 abbrev pub unit : Load → ℕ

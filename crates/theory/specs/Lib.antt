@@ -5,4 +5,4 @@ pub mod Lighter
 pub mod Shows
 pub mod Reasons
 pub mod Floor
-pub mod Spare
+pub mod Slack

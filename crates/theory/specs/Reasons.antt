@@ -19,7 +19,7 @@ withBuffers b l =
             buffer = b i;
             time = l .stream i .time;
             weight = l .stream i .weight;
-            spare = l .stream i .spare;
+            surplus = l .stream i .surplus;
           };
     }
 

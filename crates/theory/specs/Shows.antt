@@ -5,10 +5,10 @@ use mathlib.Core.List.{_∷_, [], _++_}
 use mathlib.Core.Logic.{ite}
 use native.Mathlib.Decide.{decLt}
 use lib.ListN.{length, take, drop}
-use Rattle.drive.specs.declared.Layout.{Layout}
-use Rattle.drive.specs.declared.Show.{Show}
-use Rattle.drive.specs.Limits.{layoutAt, sessionAt, noSession}
-use Rattle.cost.specs.Bound.{worstTime, weight, spareOf}
+use Rattle.show.specs.declared.Layout.{Layout}
+use Rattle.show.specs.declared.Show.{Show}
+use Rattle.show.specs.Limits.{layoutAt, sessionAt, noSession}
+use Rattle.cost.specs.Bound.{worstTime, weight, surplusOf}
 use Rattle.cost.specs.Costs.{costOf}
 use Rattle.theory.specs.Counts.{Stream, Load}
 
@@ -21,7 +21,7 @@ streamOf s i =
       buffer = sessionAt s i .buffer;
       time = worstTime (s .drive .cylinder) (costOf s i);
       weight = weight (s .drive .cylinder) (costOf s i);
-      spare = spareOf (s .drive .cylinder) (costOf s i);
+      surplus = surplusOf (s .drive .cylinder) (costOf s i);
     }
 
 abbrev pub loadOf : Show → Load

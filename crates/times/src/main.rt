@@ -1,9 +1,9 @@
 // Prints the worst time for a table of drives, layouts and counts, then the answers to shows at and just past each limit.
-use drive::Drive;
-use drive::Layout;
-use drive::Session;
-use drive::Show;
 use libc::STDOUT_FILENO;
+use show::Drive;
+use show::Layout;
+use show::Session;
+use show::Show;
 use verdict::worst::Worst;
 use verdict::worst::worst_time;
 

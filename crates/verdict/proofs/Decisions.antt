@@ -3,9 +3,9 @@ use Prim.Native.Nat.{ℕ}
 use mathlib.Core.Path.{_≡_, refl}
 use mathlib.Core.Logic.{_↔_}
 use native.Mathlib.Omega.{arith}
-use Rattle.drive.specs.declared.Show.{Show}
-use Rattle.drive.specs.declared.refusal.Refusal.{Refusal}
-use Rattle.drive.specs.Limits.{ShowWithin}
+use Rattle.show.specs.declared.Show.{Show}
+use Rattle.show.specs.declared.refusal.Refusal.{Refusal}
+use Rattle.show.specs.Limits.{ShowWithin}
 use Rattle.theory.specs.Counts.{Accepted, Smallest}
 use Rattle.theory.specs.Shows.{loadOf}
 use Rattle.verdict.specs.declared.Verdict.the-variants as verdict

@@ -5,15 +5,15 @@ use mathlib.Core.Logic.{_↔_}
 use native.Mathlib.Omega.{arith}
 use native.Mathlib.Nat.{one-mul, add-mul, mul-comm, mul-assoc, div-mul-le-self, le-div-iff-mul-le}
 use borrow.Author.Count.{below-more}
-use Rattle.drive.specs.declared.Session.{Session}
-use Rattle.drive.specs.declared.Show.{Show}
-use Rattle.drive.specs.Limits.{ShowWithin, bufferMost, sessionAt}
+use Rattle.show.specs.declared.Session.{Session}
+use Rattle.show.specs.declared.Show.{Show}
+use Rattle.show.specs.Limits.{ShowWithin, bufferMost, sessionAt}
 use Rattle.theory.specs.Counts.{Accepted, needed}
 use Rattle.theory.specs.Rounds.{need, asked, Fits, NotPast}
 use Rattle.theory.specs.Shows.{loadOf}
 use Rattle.theory.proofs.Rounds.{need-enough, need-least, start-below, accepted-fits}
 use Rattle.theory.proofs.Shows.{show-sound}
-use Rattle.verdict.specs.Steps.{Room, Lasting, SoonerIs, EndIs, endMost}
+use Rattle.verdict.specs.Steps.{Buffered, Lasting, SoonerIs, EndIs, endMost}
 
 -- A quotient rounded up is above t exactly if t times the divisor is below the dividend.
 below-ceil : (t a r : ℕ) → 1 ≤ r → (t < (a + r - 1) / r) ↔ (r * t < a)
@@ -36,10 +36,10 @@ module _ (A : ℕ) (x : Session) (h : Lasting A x) where
       let b = h .buffer in
       omega (arith, mul-assoc most A 1000000)
 
-  room-most : (m : ℕ) → Room A x m → m ≤ most
+  room-most : (m : ℕ) → Buffered A x m → m ≤ most
   room-most m r = le-div-iff-mul-le some .1 (omega (arith, add-mul m 1 A, one-mul A))
 
-  most-room : (m : ℕ) → x .cushion + A ≤ x .buffer → m ≤ most → Room A x m
+  most-room : (m : ℕ) → x .cushion + A ≤ x .buffer → m ≤ most → Buffered A x m
   most-room m fits l =
       let p : m * A ≤ x .buffer - (x .cushion + A) = le-div-iff-mul-le some .0 l in omega (arith, add-mul m 1 A, one-mul A)
 
@@ -50,12 +50,12 @@ module _ (A : ℕ) (x : Session) (h : Lasting A x) where
   unit-some = let l = some in omega arith
 
   -- A count has room exactly before the time that the largest is ahead of.
-  last-room : (t : ℕ) → x .cushion + A ≤ x .buffer → t < last → Room A x (need (x .rate) (A * 1000000) t)
+  last-room : (t : ℕ) → x .cushion + A ≤ x .buffer → t < last → Buffered A x (need (x .rate) (A * 1000000) t)
   last-room t fits l =
       most-room _ fits
       (need-least (x .rate) (A * 1000000) t most unit-some (below-ceil t (most * (A * 1000000)) (x .rate) (h .rate) .0 l))
 
-  room-last : (t : ℕ) → Room A x (need (x .rate) (A * 1000000) t) → t < last
+  room-last : (t : ℕ) → Buffered A x (need (x .rate) (A * 1000000) t) → t < last
   room-last t r =
       below-ceil t (most * (A * 1000000)) (x .rate) (h .rate) .1
       (need-enough (x .rate) (A * 1000000) t most unit-some (room-most _ r))

@@ -2,15 +2,15 @@
 use Prim.Native.Nat.{ℕ, _<_}
 use mathlib.Core.Path.{_≡_, refl, sym, _∙_, ap}
 use mathlib.Core.List.{List}
-use Rattle.drive.specs.declared.Show.{Show}
-use Rattle.drive.specs.declared.refusal.Refusal.{Refusal}
-use Rattle.drive.specs.declared.refusal.Check.the-variants.{Refused}
-use Rattle.drive.specs.Limits.{ShowWithin}
-use Rattle.drive.specs.Checks.{showCheck}
-use Rattle.drive.specs.Lists.{padded}
-use Rattle.drive.proofs.Checks.{within-refused}
-use Rattle.drive.proofs.Lists.{listed-same}
-use Rattle.drive.proofs.Shows.{within-check}
+use Rattle.show.specs.declared.Show.{Show}
+use Rattle.show.specs.declared.refusal.Refusal.{Refusal}
+use Rattle.show.specs.declared.refusal.Check.the-variants.{Refused}
+use Rattle.show.specs.Limits.{ShowWithin}
+use Rattle.show.specs.Checks.{showCheck}
+use Rattle.show.specs.Lists.{padded}
+use Rattle.show.proofs.Checks.{within-refused}
+use Rattle.show.proofs.Lists.{listed-same}
+use Rattle.show.proofs.Shows.{within-check}
 use Rattle.theory.specs.Counts.{Load}
 use Rattle.theory.specs.Shows.{loadOf}
 use Rattle.theory.proofs.Rounds.{smallest-once, round-same}

@@ -6,10 +6,10 @@ use native.Mathlib.Omega.{arith}
 use native.Mathlib.Nat.{le-trans}
 use lib.ListN.{getD, set}
 use borrow.Author.Count.{below-more}
-use Rattle.drive.specs.declared.Show.{Show}
-use Rattle.drive.specs.Limits.{ShowWithin, layoutAt, sessionAt}
-use Rattle.drive.specs.Lists.{listed, padded}
-use Rattle.drive.proofs.Lists.{filled-more, filled-at, listed-same}
+use Rattle.show.specs.declared.Show.{Show}
+use Rattle.show.specs.Limits.{ShowWithin, layoutAt, sessionAt}
+use Rattle.show.specs.Lists.{listed, padded}
+use Rattle.show.proofs.Lists.{filled-more, filled-at, listed-same}
 use Rattle.cost.specs.Bound.{worstTime}
 use Rattle.cost.specs.declared.Cost.{Cost}
 use Rattle.cost.specs.Costs.{readCost}
@@ -136,19 +136,19 @@ module _
     (s : Show) (w : ShowWithin s) (m : List ℕ) (round : ℕ) (times : List ℕ) (e : round ≡ roundTime (loadOf s) (setOf m))
     (f : times ≡ timesOf (loadOf s) (setOf m))
   where
-    abbrev answered : Answer → Trial
-    answered a = record { answer = a; round = round; times = times }
+    abbrev trialOf : Answer → Trial
+    trialOf a = record { answer = a; round = round; times = times }
 
-    same : (a : Answer) → answered a ≡ timedAs a (loadOf s) (setOf m)
+    same : (a : Answer) → trialOf a ≡ timedAs a (loadOf s) (setOf m)
     same a = λ i. record { answer = a; round = e i; times = f i }
 
     abbrev Over : ℕ → Type 0
     Over t = Holds (loadOf s) t (setOf m)
 
-    pub trial-holds : Over round → TrialIs s m (answered answer.Holds)
+    pub trial-holds : Over round → TrialIs s m (trialOf answer.Holds)
     trial-holds h = subst (TrialIs s m) (sym (same answer.Holds)) (holds w (holds-good s w (setOf m) (subst Over e h)))
 
-    pub trial-fails : (Over round → ⊥) → TrialIs s m (answered answer.Fails)
+    pub trial-fails : (Over round → ⊥) → TrialIs s m (trialOf answer.Fails)
     trial-fails none =
         subst (TrialIs s m) (sym (same answer.Fails)) (fails w (λ g. none (subst Over (sym e) (good-holds s w (setOf m) g))))
 

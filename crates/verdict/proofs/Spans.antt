@@ -3,7 +3,7 @@ use Prim.Native.Nat.{ℕ, _+_, _*_, _/_, _≤_, _<_}
 use mathlib.Core.Path.{_≡_, ap}
 use native.Mathlib.Omega.{arith}
 use native.Mathlib.Nat.{le-trans, add-le-add, mul-le-mul, div-add-mod, div-le-self, mod-lt, div-lt-iff-lt-mul}
-use Rattle.drive.specs.Limits.{Between, blockLeast, blockMost, rateMost}
+use Rattle.show.specs.Limits.{Between, blockLeast, blockMost, rateMost}
 use Rattle.theory.specs.Rounds.{need}
 use Rattle.verdict.specs.Steps.{spanOf, Short, askedOf, givenMost}
 use Rattle.verdict.specs.declared.round.Span.{Span}

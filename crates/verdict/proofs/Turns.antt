@@ -9,8 +9,8 @@ use native.Mathlib.Nat.{le-refl, le-trans, le-of-eq, lt-of-le-of-lt, mul-le-mul-
 use lib.ListN.{length, getD, set, replicate, length-set, length-replicate, getD-replicate}
 use lib.Seq.{getD-set-same, getD-set-other}
 use borrow.Author.Count.{below-more}
-use Rattle.drive.specs.declared.Show.{Show}
-use Rattle.drive.specs.Limits.{ShowWithin}
+use Rattle.show.specs.declared.Show.{Show}
+use Rattle.show.specs.Limits.{ShowWithin}
 use Rattle.cost.proofs.Bound.{bound-grows}
 use Rattle.cost.proofs.Costs.{session-laws}
 use Rattle.theory.specs.Sum.{sumTo}
@@ -25,7 +25,7 @@ use Rattle.verdict.proofs.Ends.{fits-early}
 use Rattle.verdict.proofs.Works.{asked-grows, work-below, next-small}
 
 -- A session's time u is that of what any later time asks for while its work is below what is covered, and at most that from there on.
-pub record Kept (s : Show) (i covered u t : ℕ) : Type 0 where
+pub record Covered (s : Show) (i covered u t : ℕ) : Type 0 where
   pub same : (x : ℕ) → t ≤ x → ratesOf s i * x < covered → u ≡ loadOf s .stream i .time (asked (loadOf s) x i)
   pub low : (x : ℕ) → t ≤ x → u ≤ loadOf s .stream i .time (asked (loadOf s) x i)
 
@@ -35,13 +35,13 @@ pub record Search (s : Show) (end : ℕ) (covered times : List ℕ) (t : ℕ) : 
   pub adds : t ≡ sumTo (λ k. getD times k 0) (s .playing)
   pub covers : length covered ≡ 16
   pub sized : length times ≡ 16
-  pub kept : (k : ℕ) → k < s .playing → Kept s k (getD covered k 0) (getD times k 0) t
+  pub kept : (k : ℕ) → k < s .playing → Covered s k (getD covered k 0) (getD times k 0) t
 
 abbrev zeros : List ℕ
 zeros = replicate 16 0
 
 -- A turn that began at `before`, up to session i: the counts passed are ahead over that.
-pub record Turned (s : Show) (end before : ℕ) (covered times : List ℕ) (t i : ℕ) : Type 0 where
+pub record TurnTo (s : Show) (end before : ℕ) (covered times : List ℕ) (t i : ℕ) : Type 0 where
   pub inside : i ≤ s .playing
   pub since : before ≤ t
   pub search : Search s end covered times t
@@ -68,7 +68,7 @@ module _ (s : Show) (w : ShowWithin s) (end : ℕ) where
 -- A turn at session i.
 module _
     (s : Show) (w : ShowWithin s) (end before : ℕ) (covered times : List ℕ) (t i : ℕ)
-    (h : Turned s end before covered times t i) (l : i < s .playing)
+    (h : TurnTo s end before covered times t i) (l : i < s .playing)
   where
     -- A session's time is a part of t.
     pub part : getD times i 0 ≤ t
@@ -78,7 +78,7 @@ module _
         omega (arith, sum-more (λ k. getD times k 0) i)
 
     -- A count that is still ahead stays ..
-    pub stays : (r : ℕ) → r ≡ ratesOf s i → r * t < getD covered i 0 → Turned s end before covered times t (i + 1)
+    pub stays : (r : ℕ) → r ≡ ratesOf s i → r * t < getD covered i 0 → TurnTo s end before covered times t (i + 1)
     stays r q g =
         record {
           inside = omega arith;
@@ -138,7 +138,7 @@ module _
         abbrev covers : List ℕ
         covers = set covered i (count * unit (loadOf s))
 
-        kept-here : Kept s i (getD covers i 0) (getD timed i 0) later
+        kept-here : Covered s i (getD covers i 0) (getD timed i 0) later
         kept-here =
             rw (getD-set-same covered i (count * unit (loadOf s)) 0 at-covered, getD-set-same times i u 0 at-times)
             (record {
@@ -149,9 +149,9 @@ module _
               low = λ x g. u-low x (le-trans grows g);
             })
 
-        kept-all : (k : ℕ) → k < s .playing → Kept s k (getD covers k 0) (getD timed k 0) later
+        kept-all : (k : ℕ) → k < s .playing → Covered s k (getD covers k 0) (getD timed k 0) later
         kept-all k m = elim (ℕ-discrete k i) [
-          | yes f ↦ subst (λ (j : ℕ). Kept s j (getD covers j 0) (getD timed j 0) later) (sym f) kept-here
+          | yes f ↦ subst (λ (j : ℕ). Covered s j (getD covers j 0) (getD timed j 0) later) (sym f) kept-here
           | no f ↦
               rw (getD-set-other covered i k (count * unit (loadOf s)) 0 f, getD-set-other times i k u 0 f)
               (record {
@@ -160,7 +160,7 @@ module _
               })
         ]
 
-        pub changes : later < end → Turned s end before covers timed later (i + 1)
+        pub changes : later < end → TurnTo s end before covers timed later (i + 1)
         changes g =
             record {
               inside = omega arith;
@@ -182,12 +182,12 @@ module _
 
 -- At a turn's beginning nothing is passed, and at the end of one that left t as it was the search is over.
 module _ (s : Show) (w : ShowWithin s) (end : ℕ) (covered times : List ℕ) (t : ℕ) where
-  pub turn-begun : Search s end covered times t → Turned s end t covered times t 0
+  pub turn-begun : Search s end covered times t → TurnTo s end t covered times t 0
   turn-begun h =
       record { inside = omega arith; since = le-refl t; search = h; passed = λ k l. absurd (let f : ⊥ = omega arith in f) }
 
   pub settled :
-      (before i : ℕ) → Turned s end before covered times t i → EndIs s end → s .playing ≤ i → t ≤ before → Settled s t
+      (before i : ℕ) → TurnTo s end before covered times t i → EndIs s end → s .playing ≤ i → t ≤ before → Settled s t
   settled before i h e l g =
       let inside = h .inside in
       let fits = fits-early s w end e t (h .search .early) in

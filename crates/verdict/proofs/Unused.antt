@@ -2,12 +2,12 @@
 use Prim.Native.Nat.{ℕ, _<_}
 use mathlib.Core.Path.{_≡_, sym, _∙_, ap, subst}
 use mathlib.Core.List.{List}
-use Rattle.drive.specs.declared.Drive.{Drive}
-use Rattle.drive.specs.declared.Show.{Show}
-use Rattle.drive.specs.Limits.{ShowWithin, Alike}
-use Rattle.drive.specs.Lists.{listed, padded}
-use Rattle.drive.proofs.Lists.{listed-same}
-use Rattle.drive.proofs.Shows.{check-within, within-check, alike-check}
+use Rattle.show.specs.declared.Drive.{Drive}
+use Rattle.show.specs.declared.Show.{Show}
+use Rattle.show.specs.Limits.{ShowWithin, Alike}
+use Rattle.show.specs.Lists.{listed, padded}
+use Rattle.show.proofs.Lists.{listed-same}
+use Rattle.show.proofs.Shows.{check-within, within-check, alike-check}
 use Rattle.cost.specs.declared.Cost.{Cost}
 use Rattle.cost.specs.Bound.{worstTime}
 use Rattle.cost.specs.Costs.{costOf}

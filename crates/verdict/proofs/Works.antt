@@ -5,8 +5,8 @@ use mathlib.Core.List.{List}
 use native.Mathlib.Omega.{arith}
 use native.Mathlib.Nat.{le-refl, mul-le-mul}
 use lib.ListN.{getD}
-use Rattle.drive.specs.declared.Show.{Show}
-use Rattle.drive.specs.Limits.{ShowWithin, blockMost, layoutAt, sessionAt}
+use Rattle.show.specs.declared.Show.{Show}
+use Rattle.show.specs.Limits.{ShowWithin, blockMost, layoutAt, sessionAt}
 use Rattle.cost.specs.Bound.{worstTime, countMost, worstMost}
 use Rattle.cost.specs.Costs.{readCost}
 use Rattle.cost.proofs.Bound.{worst-capped}

@@ -3,16 +3,16 @@ use Prim.Native.Nat.{ℕ, _≤_, _<_}
 use mathlib.Core.Path.{_≡_, refl, sym, ap, _∙_}
 use native.Mathlib.Omega.{arith}
 use native.Mathlib.Decide.{decLt}
-use Rattle.drive.specs.declared.Drive.{Drive}
-use Rattle.drive.specs.declared.Show.{Show}
-use Rattle.drive.specs.declared.refusal.Refusal.{Refusal}
-use Rattle.drive.specs.declared.refusal.Refusal.the-variants.{NoSession}
-use Rattle.drive.specs.declared.refusal.Check.{Check}
-use Rattle.drive.specs.declared.refusal.Check.the-variants.{Within, Refused}
-use Rattle.drive.specs.Limits.{Alike}
-use Rattle.drive.specs.Checks.{unless, showCheck}
-use Rattle.drive.proofs.Checks.{unless-kept, unless-broken}
-use Rattle.drive.proofs.Shows.{check-within, alike-check}
+use Rattle.show.specs.declared.Drive.{Drive}
+use Rattle.show.specs.declared.Show.{Show}
+use Rattle.show.specs.declared.refusal.Refusal.{Refusal}
+use Rattle.show.specs.declared.refusal.Refusal.the-variants.{NoSession}
+use Rattle.show.specs.declared.refusal.Check.{Check}
+use Rattle.show.specs.declared.refusal.Check.the-variants.{Within, Refused}
+use Rattle.show.specs.Limits.{Alike}
+use Rattle.show.specs.Checks.{unless, showCheck}
+use Rattle.show.proofs.Checks.{unless-kept, unless-broken}
+use Rattle.show.proofs.Shows.{check-within, alike-check}
 use Rattle.cost.specs.declared.Cost.{Cost}
 use Rattle.cost.specs.Bound.{worstTime}
 use Rattle.cost.specs.Costs.{costOf}

@@ -4,14 +4,14 @@ use mathlib.Core.Path.{_≡_}
 use mathlib.Core.List.{List, [], _∷_}
 use lib.IntN.{pos}
 use lib.ListN.{getD, replicate}
-use Rattle.drive.specs.declared.Show.{Show}
-use Rattle.drive.specs.declared.refusal.Refusal.{Refusal}
-use Rattle.drive.specs.declared.refusal.Refusal.the-variants.{NoSet}
-use Rattle.drive.specs.declared.refusal.Check.the-variants as check
-use Rattle.drive.specs.Limits.{ShowWithin}
-use Rattle.drive.specs.Checks.{showCheck}
-use Rattle.drive.specs.Outcomes.{Outcome, granted, refusedBy}
-use Rattle.drive.specs.Lists.{listed, padded}
+use Rattle.show.specs.declared.Show.{Show}
+use Rattle.show.specs.declared.refusal.Refusal.{Refusal}
+use Rattle.show.specs.declared.refusal.Refusal.the-variants.{NoSet}
+use Rattle.show.specs.declared.refusal.Check.the-variants as check
+use Rattle.show.specs.Limits.{ShowWithin}
+use Rattle.show.specs.Checks.{showCheck}
+use Rattle.show.specs.Outcomes.{Outcome, granted, refusedBy}
+use Rattle.show.specs.Lists.{listed, padded}
 use Rattle.theory.specs.Counts.{Load, roundTime, Good, Accepted, Smallest}
 use Rattle.theory.specs.Shows.{loadOf}
 use Rattle.verdict.specs.declared.Verdict.{Verdict}

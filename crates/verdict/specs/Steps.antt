@@ -1,9 +1,9 @@
 -- What the private functions ask and answer.
 use Prim.Native.Nat.{ℕ, _+_, _*_, _/_, _%_, _^_, _≤_, _<_}
 use mathlib.Core.Logic.{_↔_}
-use Rattle.drive.specs.declared.Session.{Session}
-use Rattle.drive.specs.declared.Show.{Show}
-use Rattle.drive.specs.Limits.{Between, blockLeast, blockMost, bufferMost, sessionAt}
+use Rattle.show.specs.declared.Session.{Session}
+use Rattle.show.specs.declared.Show.{Show}
+use Rattle.show.specs.Limits.{Between, blockLeast, blockMost, bufferMost, sessionAt}
 use Rattle.cost.specs.Bound.{fixedMost, eachMost, crossMost, worstMost}
 use Rattle.theory.specs.Counts.{Load, Feasible, Accepted}
 use Rattle.theory.specs.Rounds.{need, asked, Fits, LeastTime}
@@ -39,8 +39,8 @@ abbrev pub askedOf : ℕ → Span → ℕ
 askedOf rate p = need rate (p .unit) (p .unit * p .whole + p .part)
 
 -- (M + 1) x A + Y is at most B
-abbrev pub Room : ℕ → Session → ℕ → Type 0
-Room A x m = (m + 1) * A + x .cushion ≤ x .buffer
+abbrev pub Buffered : ℕ → Session → ℕ → Type 0
+Buffered A x m = (m + 1) * A + x .cushion ≤ x .buffer
 
 -- What is known of a session, to tell how long a round its buffer takes.
 pub record Lasting (A : ℕ) (x : Session) : Type 0 where
@@ -50,7 +50,7 @@ pub record Lasting (A : ℕ) (x : Session) : Type 0 where
 
 -- The times below r are those below e over which the session's count has room.
 abbrev pub SoonerIs : ℕ → Session → ℕ → ℕ → Type 0
-SoonerIs A x e r = (t : ℕ) → (t < r) ↔ ((t < e) × Room A x (need (x .rate) (A * 1000000) t))
+SoonerIs A x e r = (t : ℕ) → (t < r) ↔ ((t < e) × Buffered A x (need (x .rate) (A * 1000000) t))
 
 -- No round of counts that fit takes so long.
 abbrev pub endMost : ℕ
@@ -76,7 +76,7 @@ SettledAs s Full = Accepted (loadOf s) → ⊥
 
 -- A count has room, and is no less than what is asked: so it is at least 1.
 pub record Held (A : ℕ) (x : Session) (p : Span) (m : ℕ) : Type 0 where
-  pub room : Room A x m
+  pub room : Buffered A x m
   pub ahead : askedOf (x .rate) p ≤ m
 
 pub record Holds (l : Load) (t : ℕ) (m : ℕ → ℕ) : Type 0 where

@@ -1,11 +1,11 @@
 // A given count: whether it can stand in a set.
 ghost use Prim.Native.Nat.{_≤_};
-ghost use Rattle.drive.specs.Limits.{Tells, blockLeast, rateMost, bufferMost};
+ghost use Rattle.show.specs.Limits.{Tells, blockLeast, rateMost, bufferMost};
 ghost use Rattle.verdict.specs.Steps.{Short, Held};
 use crate::round::Span;
 use crate::round::fits;
 use crate::round::need;
-use drive::Session;
+use show::Session;
 
 // A session's count fits its buffer and is ahead of its rate over the time: so it is at least 1.
 pub(crate) fn held(block: u32, session: Session, span: Span, count: u32) -> bool

@@ -4,7 +4,7 @@ pub mod round;
 pub mod worst;
 
 ghost use mathlib.Core.Path.{_≡_};
-ghost use Rattle.drive.specs.Limits.{ShowWithin};
+ghost use Rattle.show.specs.Limits.{ShowWithin};
 ghost use Rattle.theory.specs.Rounds.{asked};
 ghost use Rattle.theory.specs.Shows.{loadOf};
 ghost use Rattle.verdict.specs.Answers.{DecisionIs, TrialIs, acceptedWith, refusedFor};
@@ -15,9 +15,9 @@ use crate::round::need;
 use crate::round::settle;
 use crate::round::split;
 use crate::worst::takes;
-use drive::Show;
-use drive::refusal::Check;
-use drive::refusal::Refusal;
+use show::Show;
+use show::refusal::Check;
+use show::refusal::Refusal;
 
 pub enum Verdict {
     Accepted,

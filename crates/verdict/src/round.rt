@@ -1,13 +1,13 @@
 // The least round time that sustains itself, and the counts that it asks for: docs/RULES.md, section 7.
 ghost use mathlib.Core.Path.{_≡_};
 ghost use Prim.Native.Nat.{_*_, _≤_};
-ghost use Rattle.drive.specs.Limits.{Tells, ShowWithin, blockLeast, rateMost, bufferMost};
+ghost use Rattle.show.specs.Limits.{Tells, ShowWithin, blockLeast, rateMost, bufferMost};
 ghost use Rattle.theory.specs.Shows.{loadOf};
 ghost use Rattle.verdict.specs.Answers.{row};
-ghost use Rattle.verdict.specs.Steps.{spanOf, Short, askedOf, Room, Lasting, SoonerIs, EndIs, ratesOf, SettledAs};
+ghost use Rattle.verdict.specs.Steps.{spanOf, Short, askedOf, Buffered, Lasting, SoonerIs, EndIs, ratesOf, SettledAs};
 use crate::worst::takes;
-use drive::Session;
-use drive::Show;
+use show::Session;
+use show::Show;
 
 // A time in units of A x 1,000,000: unit x whole + part. A rate times a time can pass 64 bits, a rate times these cannot.
 pub(crate) struct Span {
@@ -51,7 +51,7 @@ const COUNT_MOST: u64 = 2_097_152;
 // Whether the buffer takes the count and one block more.
 pub(crate) fn fits(block: u32, session: Session, count: u64) -> bool
     requires { ⌜ (blockLeast ≤ block) × (session .buffer ≤ bufferMost) ⌝ }
-    ensures { λ r. ⌜ Tells r (Room block session count) ⌝ }
+    ensures { λ r. ⌜ Tells r (Buffered block session count) ⌝ }
 {
     if COUNT_MOST <= count {
         return false;

@@ -1,16 +1,16 @@
 // U, the longest that an operation can take: docs/RULES.md, section 3. It is worked out here and nowhere else.
 ghost use mathlib.Core.Path.{_≡_};
 ghost use Prim.Native.Nat.{_≤_};
-ghost use Rattle.drive.specs.Limits.{LayoutWithin};
+ghost use Rattle.show.specs.Limits.{LayoutWithin};
 ghost use Rattle.cost.specs.Bound.{edges, worstTime};
 ghost use Rattle.cost.specs.Costs.{readCost};
 ghost use Rattle.verdict.specs.Steps.{timeMost};
 ghost use Rattle.verdict.specs.WorstTimes.{worstOf};
 use cost::Cost;
-use drive::Layout;
-use drive::Show;
-use drive::refusal::Check;
-use drive::refusal::Refusal;
+use show::Layout;
+use show::Show;
+use show::refusal::Check;
+use show::refusal::Refusal;
 
 // How long so many blocks of a session take at worst, or why there is no answer.
 pub enum Worst {

@@ -2,10 +2,10 @@
 ghost use mathlib.Core.Path.{_≡_};
 ghost use Prim.Native.Nat.{_+_, _<_, _≤_};
 ghost use lib.ListN.{length};
-use drive::Drive;
-use drive::Layout;
-use drive::Session;
-use drive::Show;
+use show::Drive;
+use show::Layout;
+use show::Session;
+use show::Show;
 
 pub(crate) const RECORD: usize = 464;
 

@@ -16,12 +16,12 @@ use crate::given::RECORD;
 use crate::given::counts_of;
 use crate::given::numbers;
 use crate::given::show_of;
-use drive::Show;
-use drive::refusal::Refusal;
 use libc::STDIN_FILENO;
 use libc::STDOUT_FILENO;
 use reason::Loaded;
 use reason::Reason;
+use show::Show;
+use show::refusal::Refusal;
 use verdict::Answer;
 use verdict::Verdict;
 

@@ -2,7 +2,7 @@
 use mathlib.Core.Path.{_≡_, sym}
 use Rattle.text.specs.Ascii.{ascii}
 use Rattle.text.specs.Lines.{twoLine, refusedText}
-use Rattle.text.specs.Puts.{Room, Put}
+use Rattle.text.specs.Puts.{FitsAt, Put}
 use Rattle.text.proofs.Puts.{room-as, room-first, room-then, put-as, put-then}
 use Rattle.text.proofs.Lines.{refusal-made}
 use Rattle.explain.specs.Text.{refusalText}
@@ -11,7 +11,7 @@ use borrow.Author.Needs.{needs}
 use Rattle.explain.proofs.put_refusal.Statement.{statement}
 use Rattle.explain.proofs.put_refusal.Tie as tie
 
-room : (c : tie.Start) → Room (c .args .out .now) 0 (refusalText (c .args .why))
+room : (c : tie.Start) → FitsAt (c .args .out .now) 0 (refusalText (c .args .why))
 room c = refusal-room _ (c .pre) (c .args .why)
 
 made : (c : tie.After-told) → refusedText (c .before .before .args .why) ≡ twoLine (ascii "refused ") (c .told .result .number) (c .told .result .place)

@@ -2,9 +2,9 @@
 use mathlib.Core.Path.{_≡_}
 use native.Mathlib.Omega.{arith}
 use lib.ListN.{length}
-use Rattle.drive.proofs.Lists.{unmapped}
+use Rattle.show.proofs.Lists.{unmapped}
 use Rattle.run.specs.Sound.{SoundRun}
-use Rattle.sound.proofs.Tests.{tested-sound, tested-damaged}
+use Rattle.run_test.proofs.Tests.{tested-sound, tested-damaged}
 use Rattle.playback.proofs.Clocks.{sound-clocked}
 use Rattle.playback.proofs.Cycles.{place-few, seated-few}
 use Rattle.playback.proofs.Calls.{finish-damaged, finish-long, finish-nothing, finish-counted, read-few, read-seated, advanced-put}

@@ -1,6 +1,6 @@
 -- `pass` lets time go by. Assumes nothing.
 use Rattle.run.specs.Sound.{SoundRun}
-use Rattle.sound.proofs.Tests.{tested-sound, tested-damaged}
+use Rattle.run_test.proofs.Tests.{tested-sound, tested-damaged}
 use Rattle.playback.proofs.Clocks.{sound-clocked, advanced-run}
 use Rattle.playback.proofs.Calls.{pass-damaged, pass-long, pass-granted}
 use borrow.Author.Needs.{needs}

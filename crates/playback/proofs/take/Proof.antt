@@ -3,7 +3,7 @@ use Prim.Native.Nat.{_<_}
 use native.Mathlib.Omega.{arith}
 use borrow.Author.Needs.{needs}
 use Rattle.run.specs.Sound.{SoundRun}
-use Rattle.sound.proofs.Tests.{tested-sound, tested-damaged}
+use Rattle.run_test.proofs.Tests.{tested-sound, tested-damaged}
 use Rattle.playback.proofs.Calls.{take-damaged, take-nobody, take-handed, take-granted}
 use Rattle.playback.proofs.take.Statement.{statement}
 use Rattle.playback.proofs.take.Tie as tie

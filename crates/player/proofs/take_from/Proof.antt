@@ -1,7 +1,7 @@
 -- `take_from` moves G of one state forward. Assumes nothing.
 use borrow.Author.Needs.{needs}
 use borrow.Author.Tests.{not-true, not-false}
-use Rattle.drive.proofs.Checks.{tells-yes, tells-no}
+use Rattle.show.proofs.Checks.{tells-yes, tells-no}
 use Rattle.run.specs.Sound.{StateSound}
 use Rattle.player.proofs.Takes.{take-damaged, take-early, take-over, take-granted}
 use Rattle.player.proofs.take_from.Statement.{statement}

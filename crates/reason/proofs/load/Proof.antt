@@ -3,8 +3,8 @@ use mathlib.Core.Path.{sym, _∙_, ap}
 use native.Mathlib.Omega.{arith}
 use Prim.Native.Nat.{_*_}
 use native.Mathlib.Nat.{div-le-self}
-use Rattle.drive.specs.Limits.{ShowWithin}
-use Rattle.drive.proofs.Shows.{check-within}
+use Rattle.show.specs.Limits.{ShowWithin}
+use Rattle.show.proofs.Shows.{check-within}
 use Rattle.reason.specs.declared.Loaded.the-variants.{Tenths}
 use Rattle.reason.proofs.Loads.{tenths-parts}
 use Rattle.reason.proofs.Answers.{load-refused, load-told}

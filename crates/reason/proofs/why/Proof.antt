@@ -1,8 +1,8 @@
 -- `why` tests for overload, decides with the largest buffers, and looks for a count that does not fit its own. Assumes nothing.
 use mathlib.Core.Path.{sym, _∙_}
 use native.Mathlib.Omega.{arith}
-use Rattle.drive.specs.Limits.{ShowWithin}
-use Rattle.drive.proofs.Shows.{check-within}
+use Rattle.show.specs.Limits.{ShowWithin}
+use Rattle.show.proofs.Shows.{check-within}
 use Rattle.reason.specs.Answers.{outside}
 use Rattle.reason.proofs.Reasons.{overloads, beyond-them, wide-counts}
 use borrow.Author.Needs.{needs}

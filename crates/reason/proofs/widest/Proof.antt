@@ -2,8 +2,8 @@
 use Prim.Native.Nat.{_-_}
 use mathlib.Core.Path.{refl}
 use native.Mathlib.Omega.{arith}
-use Rattle.drive.specs.Limits.{noSession}
-use Rattle.drive.proofs.Lists.{filled-none}
+use Rattle.show.specs.Limits.{noSession}
+use Rattle.show.proofs.Lists.{filled-none}
 use Rattle.reason.proofs.Wide.{WideTo, wide-body, wide-ended}
 use borrow.Author.Needs.{needs}
 use Rattle.reason.proofs.widest.Statement.{statement}

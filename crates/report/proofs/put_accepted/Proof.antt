@@ -2,7 +2,7 @@
 use mathlib.Core.Path.{_≡_, sym, ap}
 use mathlib.Core.List.{List}
 use Prim.Native.Nat.{ℕ}
-use Rattle.drive.specs.declared.Show.{Show}
+use Rattle.show.specs.declared.Show.{Show}
 use Rattle.theory.specs.Counts.{roundTime}
 use Rattle.theory.specs.Shows.{loadOf}
 use Rattle.verdict.specs.declared.Decision.{Decision}

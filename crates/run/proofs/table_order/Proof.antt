@@ -4,7 +4,7 @@ use mathlib.Core.Path.{_≡_, _∙_, ap}
 use mathlib.Core.List.{List}
 use native.Mathlib.Omega.{arith}
 use lib.ListN.{set}
-use Rattle.drive.proofs.Lists.{filled-none, filled-more}
+use Rattle.show.proofs.Lists.{filled-none, filled-more}
 use Rattle.run.specs.Opening.{tableOrder}
 use Rattle.run.proofs.table_order.Statement.{statement}
 use Rattle.run.proofs.table_order.Tie as tie

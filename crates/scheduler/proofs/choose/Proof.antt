@@ -2,8 +2,8 @@
 use Prim.Native.Nat.{_-_}
 use mathlib.Core.Path.{_∙_, ap}
 use native.Mathlib.Omega.{arith}
-use Rattle.drive.proofs.Checks.{tells-yes, tells-no}
-use Rattle.sound.proofs.Tests.{tested-sound, tested-damaged}
+use Rattle.show.proofs.Checks.{tells-yes, tells-no}
+use Rattle.run_test.proofs.Tests.{tested-sound, tested-damaged}
 use Rattle.run.proofs.Seats.{sound-seated, onward-few, ahead-few}
 use Rattle.scheduler.specs.Answers.{arrived}
 use Rattle.scheduler.proofs.Cycles.{SkippedTo, skips-none, skips-more, skips-found, skips-all}

@@ -3,8 +3,8 @@ use mathlib.Core.Path.{sym, _∙_}
 use native.Mathlib.Omega.{arith}
 use lib.ListN.{length}
 use borrow.Author.Tests.{not-true, not-false}
-use Rattle.drive.specs.Limits.{Between}
-use Rattle.drive.proofs.Checks.{tells-yes, tells-no}
+use Rattle.show.specs.Limits.{Between}
+use Rattle.show.proofs.Checks.{tells-yes, tells-no}
 use Rattle.showfile.specs.Checks.{fileLeast, fileMost}
 use Rattle.showfile.proofs.Stops.{read-length, read-trailer, read-rest}
 use borrow.Author.Needs.{needs}

@@ -7,7 +7,7 @@ use mir.Syntax.{w64}
 use mir.Val.{toZ, ofZ}
 use native.Mathlib.Omega.{arith}
 use Rattle.run.specs.Sound.{SoundRun}
-use Rattle.sound.proofs.Tests.{tested-sound, tested-damaged}
+use Rattle.run_test.proofs.Tests.{tested-sound, tested-damaged}
 use Rattle.spare.proofs.Standings.{standing-fit, slack-in}
 use Rattle.spare.proofs.Calls.{slack-damaged, slack-empty, slack-time}
 use borrow.Author.Needs.{needs}

@@ -1,7 +1,7 @@
 -- `start` refuses in order, or begins. Assumes nothing.
 use native.Mathlib.Omega.{arith}
 use Rattle.run.specs.Sound.{SoundRun}
-use Rattle.sound.proofs.Tests.{tested-sound, tested-damaged}
+use Rattle.run_test.proofs.Tests.{tested-sound, tested-damaged}
 use Rattle.spare.proofs.Calls.{start-damaged, start-again, start-busy, start-empty, start-begins}
 use borrow.Author.Needs.{needs}
 use Rattle.spare.proofs.start.Tie as tie

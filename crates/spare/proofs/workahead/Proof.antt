@@ -4,7 +4,7 @@ use mir.Val.{toZ, ofZ}
 use mathlib.Core.Path.{_≡_, _∙_}
 use native.Mathlib.Omega.{arith}
 use Rattle.run.specs.Sound.{SoundRun}
-use Rattle.sound.proofs.Tests.{tested-sound, tested-damaged}
+use Rattle.run_test.proofs.Tests.{tested-sound, tested-damaged}
 use Rattle.spare.proofs.Aheads.{counting}
 use Rattle.spare.proofs.Calls.{workahead-damaged, workahead-nobody, workahead-time}
 use borrow.Author.Needs.{needs}

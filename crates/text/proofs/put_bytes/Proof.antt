@@ -6,7 +6,7 @@ use native.Mathlib.Numerals.{add-one}
 use native.Mathlib.Omega.{arith}
 use lib.ListN.{length, getD, take}
 use lib.Seq.{take-suc, take-all}
-use Rattle.text.specs.Puts.{Room}
+use Rattle.text.specs.Puts.{FitsAt}
 use Rattle.text.proofs.Puts.{PutTo, pieces-begun, piece-room, piece-put, pieces-ended, put-as, room-as}
 use Rattle.text.proofs.put_bytes.Statement.{statement}
 use Rattle.text.proofs.put_bytes.Tie as tie
@@ -18,7 +18,7 @@ one-byte word i = getD word i 0 ∷ []
 more : (word : List ℕ) (i : ℕ) → i < length word → take (i + 1) word ≡ take i word ++ one-byte word i
 more word i h = ap (λ (k : ℕ). take k word) (add-one i) ∙ take-suc word i 0 h
 
-whole : (word : List ℕ) {was : List ℕ} {at : ℕ} → Room was at word → Room was at (take (length word) word)
+whole : (word : List ℕ) {was : List ℕ} {at : ℕ} → FitsAt was at word → FitsAt was at (take (length word) word)
 whole word r = room-as (sym (take-all (length word) word (omega arith))) r
 
 abbrev Inv-loop : tie.InvT-loop

@@ -6,9 +6,9 @@ use native.Mathlib.Omega.{arith}
 use lib.ListN.{length, length-append}
 use borrow.Author.Needs.{needs}
 use borrow.Author.Tests.{not-true, not-false}
-use Rattle.drive.proofs.Checks.{tells-yes, tells-no}
+use Rattle.show.proofs.Checks.{tells-yes, tells-no}
 use Rattle.text.specs.Decimal.{decimal}
-use Rattle.text.specs.Puts.{Room}
+use Rattle.text.specs.Puts.{FitsAt}
 use Rattle.text.proofs.Puts.{room-first, room-then, put-then, put-answers, no-room}
 use Rattle.text.proofs.put_numbered.Statement.{statement}
 use Rattle.text.proofs.put_numbered.Tie as tie
@@ -23,7 +23,7 @@ front s = s .args .before .now
 abbrev rest : tie.Start → List ℕ
 rest s = decimal (s .args .n) ++ s .args .after .now
 
-room : (c : tie.Else1) → Room (c .before .before .before .before .before .before .args .out .now) (c .before .before .before .before .before .before .args .at) (front (c .before .before .before .before .before .before) ++ rest (c .before .before .before .before .before .before))
+room : (c : tie.Else1) → FitsAt (c .before .before .before .before .before .before .args .out .now) (c .before .before .before .before .before .before .args .at) (front (c .before .before .before .before .before .before) ++ rest (c .before .before .before .before .before .before))
 room c =
     let a = c .before .before .before .before .before .before .args in
     let f = tells-yes _ (c .before .fits2 .result) (not-false _ (c .if1 .left)) (c .before .fits2 .ensures) in
@@ -47,7 +47,7 @@ put-bytes-requires : tie.Need-put-bytes-requires
 put-bytes-requires c κs = room-first (front (c .before .before .before .before .before .before .before)) (rest (c .before .before .before .before .before .before .before)) (room (c .before))
 
 -- the room behind what stands before
-room-number : (c : tie.After-put-bytes) → Room (c .put-bytes .last .0) (c .put-bytes .result) (rest (c .before .before .before .before .before .before .before .before))
+room-number : (c : tie.After-put-bytes) → FitsAt (c .put-bytes .last .0) (c .put-bytes .result) (rest (c .before .before .before .before .before .before .before .before))
 room-number c = room-then (front (c .before .before .before .before .before .before .before .before)) (rest (c .before .before .before .before .before .before .before .before)) (room (c .before .before)) (c .put-bytes .ensures) (c .put-bytes .kept .0)
 
 put-decimal-requires : tie.Need-put-decimal-requires

@@ -2,7 +2,7 @@
 use native.Mathlib.Omega.{arith}
 use borrow.Author.Needs.{needs}
 use borrow.Author.Tests.{not-true, not-false}
-use Rattle.drive.proofs.Checks.{tells-yes, tells-no}
+use Rattle.show.proofs.Checks.{tells-yes, tells-no}
 use Rattle.text.proofs.Puts.{put-answers, no-room}
 use Rattle.text.proofs.put_word.Statement.{statement}
 use Rattle.text.proofs.put_word.Tie as tie

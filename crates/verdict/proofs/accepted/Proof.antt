@@ -2,7 +2,7 @@ use Prim.Native.Nat.{_-_}
 use mathlib.Core.Path.{_∙_, ap}
 use native.Mathlib.Omega.{arith}
 use borrow.Author.Needs.{needs}
-use Rattle.drive.proofs.Lists.{filled-none}
+use Rattle.show.proofs.Lists.{filled-none}
 use Rattle.cost.proofs.Costs.{laid-below, layout-within}
 use Rattle.theory.specs.Rounds.{asked}
 use Rattle.theory.specs.Shows.{loadOf}

@@ -1,8 +1,8 @@
 -- `decide` refuses a show outside the limits, and otherwise answers by the least time that sustains. Assumes nothing.
 use mathlib.Core.Path.{sym, _∙_, subst}
 use borrow.Author.Needs.{needs}
-use Rattle.drive.specs.Limits.{ShowWithin}
-use Rattle.drive.proofs.Shows.{check-within}
+use Rattle.show.specs.Limits.{ShowWithin}
+use Rattle.show.proofs.Shows.{check-within}
 use Rattle.theory.proofs.Rounds.{least-smallest}
 use Rattle.theory.proofs.Shows.{show-sound}
 use Rattle.verdict.specs.Answers.{DecisionIs, accepted, no-set, outside}

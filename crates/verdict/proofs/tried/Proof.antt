@@ -4,10 +4,10 @@ use Prim.Native.Nat.{_-_}
 use mathlib.Core.Path.{sym, _∙_}
 use native.Mathlib.Omega.{arith}
 use borrow.Author.Tests.{not-true, not-false}
-use Rattle.drive.specs.Limits.{ShowWithin}
-use Rattle.drive.proofs.Shows.{check-within}
-use Rattle.drive.proofs.Checks.{tells-yes, tells-no}
-use Rattle.drive.proofs.Lists.{filled-none}
+use Rattle.show.specs.Limits.{ShowWithin}
+use Rattle.show.proofs.Shows.{check-within}
+use Rattle.show.proofs.Checks.{tells-yes, tells-no}
+use Rattle.show.proofs.Lists.{filled-none}
 use Rattle.cost.proofs.Costs.{laid-below, layout-within}
 use Rattle.theory.specs.Shows.{loadOf}
 use Rattle.verdict.specs.Answers.{setOf, untried}

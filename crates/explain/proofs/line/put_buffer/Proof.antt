@@ -1,5 +1,5 @@
 -- The line, the sentence up to the load, and the load. Assumes nothing.
-use Rattle.text.specs.Puts.{Room}
+use Rattle.text.specs.Puts.{FitsAt}
 use Rattle.text.proofs.Puts.{room-first, room-then, put-then}
 use Rattle.reason.specs.declared.Reason.the-variants.{Buffer}
 use Rattle.explain.specs.Text.{bufferText}
@@ -8,7 +8,7 @@ use borrow.Author.Needs.{needs}
 use Rattle.explain.proofs.line.put_buffer.Statement.{statement}
 use Rattle.explain.proofs.line.put_buffer.Tie as tie
 
-room : (c : tie.Start) → Room (c .args .out .now) 0 (bufferText (c .args .session) (c .args .size) (c .args .tenths))
+room : (c : tie.Start) → FitsAt (c .args .out .now) 0 (bufferText (c .args .session) (c .args .size) (c .args .tenths))
 room c = reason-room _ (c .pre) (Buffer (c .args .session) (c .args .size)) (c .args .tenths)
 
 slice-aggregate-put-pair : tie.Need-slice-aggregate-put-pair

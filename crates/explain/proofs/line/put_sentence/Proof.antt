@@ -4,10 +4,10 @@ use mathlib.Core.List.{List, [], _∷_}
 use Prim.Native.Nat.{ℕ}
 use types.Run.{OneOf, miss}
 use denote.Enum.Declared.{tagOf}
-use Rattle.drive.proofs.refusal.Refusal.{the-type}
-use Rattle.drive.specs.declared.refusal.Refusal.{Refusal}
-use Rattle.drive.specs.declared.refusal.Refusal.the-variants.{FileLength, Counts, Distances, NoteLength, DriveLimits, LayoutLimits, SessionLimits, NoSet, NoSession, TooMuch, TooLong, NotStarted, ReadUnderway, PutLimit, NegativeSlack, BufferShort, NothingUnderway, AlreadyStarted, Damaged}
-use Rattle.text.specs.Puts.{putOver, putTo, Room, Put}
+use Rattle.show.proofs.refusal.Refusal.{the-type}
+use Rattle.show.specs.declared.refusal.Refusal.{Refusal}
+use Rattle.show.specs.declared.refusal.Refusal.the-variants.{FileLength, Counts, Distances, NoteLength, DriveLimits, LayoutLimits, SessionLimits, NoSet, NoSession, TooMuch, TooLong, NotStarted, ReadUnderway, PutLimit, NegativeSlack, BufferShort, NothingUnderway, AlreadyStarted, Damaged}
+use Rattle.text.specs.Puts.{putOver, putTo, FitsAt, Put}
 use Rattle.text.proofs.Puts.{room-as, room-put, put-as}
 use Rattle.explain.specs.Text.{plainly, sentence}
 use borrow.Author.Needs.{needs}
@@ -15,7 +15,7 @@ use Rattle.explain.proofs.line.put_sentence.Statement.{statement}
 use Rattle.explain.proofs.line.put_sentence.Tie as tie
 
 said :
-    {s t was after : List ℕ} {at next : ℕ} → s ≡ t → Room was at s → (after ≡ putOver was at t) × (next ≡ putTo was at t) → Put was at s after next
+    {s t was after : List ℕ} {at next : ℕ} → s ≡ t → FitsAt was at s → (after ≡ putOver was at t) × (next ≡ putTo was at t) → Put was at s after next
 said e room f = put-as (sym e) (room-put (room-as e room) (f .0) (f .1))
 
 -- the refusals that no file is refused with, by their order in the enum

@@ -2,7 +2,7 @@
 use Prim.Native.Nat.{_-_, _<_}
 use mathlib.Core.Path.{_≡_, _∙_}
 use native.Mathlib.Omega.{arith}
-use Rattle.drive.specs.Limits.{ShowWithin}
+use Rattle.show.specs.Limits.{ShowWithin}
 use Rattle.cost.specs.Costs.{costOf}
 use Rattle.cost.proofs.Costs.{laid-below, cost-read}
 use Rattle.reason.proofs.Loads.{SumsTo, sums-begun, sums-body, sums-ended, blocks-capped, edges-capped}

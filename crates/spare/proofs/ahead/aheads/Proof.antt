@@ -7,8 +7,8 @@ use lib.IntN.{ℤ, pos}
 use lib.ListN.{set}
 use mir.Syntax.{w64}
 use mir.Val.{toZ, ofZ}
-use Rattle.drive.specs.Lists.{listed, padded}
-use Rattle.drive.proofs.Lists.{filled-none, filled-more}
+use Rattle.show.specs.Lists.{listed, padded}
+use Rattle.show.proofs.Lists.{filled-none, filled-more}
 use Rattle.spare.specs.Times.{aheadAt}
 use Rattle.spare.proofs.Aheads.{counting}
 use Rattle.spare.proofs.ahead.aheads.Tie as tie

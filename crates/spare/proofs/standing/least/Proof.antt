@@ -11,13 +11,13 @@ use mir.Facts.{toZ-ofZ}
 use Rattle.verdict.specs.Answers.{setOf}
 use Rattle.spare.specs.Standing.{placeIn, aheadIn}
 use Rattle.spare.proofs.Orders.{test-less, test-not}
-use Rattle.spare.proofs.Seats.{Seated, seatIn, named-seats, Turned, first-small, next-small, turned-first, turned-less, turned-more, turned-all}
+use Rattle.spare.proofs.Seats.{Seated, seatIn, named-seats, LeastTo, first-small, next-small, turned-first, turned-less, turned-more, turned-all}
 use Rattle.spare.proofs.standing.least.Tie as tie
 use borrow.Author.Needs.{needs}
 use Rattle.spare.proofs.standing.least.Statement.{statement}
 
 abbrev Inv-loop : tie.InvT-loop
-Inv-loop s seats first sum₀ least₀ k₀ sum least k = Turned s seats sum (toZ w64 least) k
+Inv-loop s seats first sum₀ least₀ k₀ sum least k = LeastTo s seats sum (toZ w64 least) k
 
 abbrev μ-loop : tie.MeasureT-loop
 μ-loop s seats first sum₀ least₀ k₀ sum least k = s .playing - k
@@ -46,25 +46,25 @@ mul-sum c = let l = few c 0 (c .before .before .pre .1) in omega arith
 element-copy-out-sum : tie.Need-element-copy-out-sum Inv-loop μ-loop
 element-copy-out-sum c = few c 0 (c .before .before .pre .1)
 
-mul-taken : tie.Need-mul-taken Inv-loop μ-loop
-mul-taken c = let l = few (c .before) 0 (c .before .before .before .pre .1) in omega arith
+mul-net : tie.Need-mul-net Inv-loop μ-loop
+mul-net c = let l = few (c .before) 0 (c .before .before .before .pre .1) in omega arith
 
-element-copy-out-taken : tie.Need-element-copy-out-taken Inv-loop μ-loop
-element-copy-out-taken c = few (c .before) 0 (c .before .before .before .pre .1)
+element-copy-out-net : tie.Need-element-copy-out-net Inv-loop μ-loop
+element-copy-out-net c = few (c .before) 0 (c .before .before .before .pre .1)
 
-first-ahead : (c : tie.After-taken-arg Inv-loop μ-loop) → toZ w64 (ofZ w64 (aheadIn (c .before .before .before .before .args .t1 .aheads) (seatIn (c .before .before .ordered .result) 0))) ≡ aheadIn (c .before .before .before .before .args .t1 .aheads) (seatIn (c .before .before .ordered .result) 0)
-first-ahead c = toZ-ofZ (record { sfits = c .taken-arg .given })
+first-ahead : (c : tie.After-net-arg Inv-loop μ-loop) → toZ w64 (ofZ w64 (aheadIn (c .before .before .before .before .args .t1 .aheads) (seatIn (c .before .before .ordered .result) 0))) ≡ aheadIn (c .before .before .before .before .args .t1 .aheads) (seatIn (c .before .before .ordered .result) 0)
+first-ahead c = toZ-ofZ (record { sfits = c .net-arg .given })
 
-taken-requires : tie.Need-taken-requires Inv-loop μ-loop
-taken-requires c κs =
+net-requires : tie.Need-net-requires Inv-loop μ-loop
+net-requires c κs =
     let f = c .before .before .before .before .pre .0 in
     let z = c .before .before .before .before .pre .1 in
     (rw (first-ahead c) (f .aheads _ (seats (c .before .before) .inside 0 z)), first-small (c .before .before .before .before .args .t1) (c .before .before .ordered .result) (seats (c .before .before)) f z)
 
 loop-holds : tie.Need-loop-holds Inv-loop μ-loop
 loop-holds c =
-    let e : toZ w64 (ofZ w64 (c .taken .result)) ≡ c .taken .result = search needs in
-    turned-first (c .before .before .before .before .before .args .t1) (c .before .before .before .ordered .result) (seats (c .before .before .before)) _ (c .before .before .before .before .before .pre .1) (e ∙ c .taken .ensures ∙ ap (λ (z : ℤ). z -ℤ pos (setOf (c .before .before .before .before .before .args .t1 .times) (seatIn (c .before .before .before .ordered .result) 0))) (first-ahead (c .before)))
+    let e : toZ w64 (ofZ w64 (c .net .result)) ≡ c .net .result = search needs in
+    turned-first (c .before .before .before .before .before .args .t1) (c .before .before .before .ordered .result) (seats (c .before .before .before)) _ (c .before .before .before .before .before .pre .1) (e ∙ c .net .ensures ∙ ap (λ (z : ℤ). z -ℤ pos (setOf (c .before .before .before .before .before .args .t1 .times) (seatIn (c .before .before .before .ordered .result) 0))) (first-ahead (c .before)))
 
 mul-i : tie.Need-mul-i Inv-loop μ-loop
 mul-i c = let l = c .loop-test .taken in let f = c .before .before .before .before .before .before .before .pre .0 .few in omega arith
@@ -84,25 +84,25 @@ element-copy-out-load c = seat c
 add-load : tie.Need-add-load Inv-loop μ-loop
 add-load c = record { fits = lt-of-le-of-lt (next-small (c .before .before .before .before .before .before .before .before .args .t1) (c .before .before .before .before .before .before .ordered .result) (seats (c .before .before .before .before .before .before)) (c .before .before .before .before .before .before .before .before .pre .0) _ _ (c .before .loop-test .taken) (c .before .before .loop .inv .times)) (omega arith) }
 
-mul-taken-2 : tie.Need-mul-taken-2 Inv-loop μ-loop
-mul-taken-2 c = let l = seat (c .before) in omega arith
+mul-net-2 : tie.Need-mul-net-2 Inv-loop μ-loop
+mul-net-2 c = let l = seat (c .before) in omega arith
 
-element-copy-out-taken-2 : tie.Need-element-copy-out-taken-2 Inv-loop μ-loop
-element-copy-out-taken-2 c = seat (c .before)
+element-copy-out-net-2 : tie.Need-element-copy-out-net-2 Inv-loop μ-loop
+element-copy-out-net-2 c = seat (c .before)
 
-next-ahead : (c : tie.After-taken-arg2 Inv-loop μ-loop) → toZ w64 (ofZ w64 (aheadIn (c .before .before .before .before .before .before .before .before .before .args .t1 .aheads) (seatIn (c .before .before .before .before .before .before .before .ordered .result) (c .before .before .before .loop .k)))) ≡ aheadIn (c .before .before .before .before .before .before .before .before .before .args .t1 .aheads) (seatIn (c .before .before .before .before .before .before .before .ordered .result) (c .before .before .before .loop .k))
-next-ahead c = toZ-ofZ (record { sfits = c .taken-arg2 .given })
+next-ahead : (c : tie.After-net-arg2 Inv-loop μ-loop) → toZ w64 (ofZ w64 (aheadIn (c .before .before .before .before .before .before .before .before .before .args .t1 .aheads) (seatIn (c .before .before .before .before .before .before .before .ordered .result) (c .before .before .before .loop .k)))) ≡ aheadIn (c .before .before .before .before .before .before .before .before .before .args .t1 .aheads) (seatIn (c .before .before .before .before .before .before .before .ordered .result) (c .before .before .before .loop .k))
+next-ahead c = toZ-ofZ (record { sfits = c .net-arg2 .given })
 
-taken-requires-2 : tie.Need-taken-requires-2 Inv-loop μ-loop
-taken-requires-2 c κs =
+net-requires-2 : tie.Need-net-requires-2 Inv-loop μ-loop
+net-requires-2 c κs =
     let f = c .before .before .before .before .before .before .before .before .before .pre .0 in
     let l = c .before .before .loop-test .taken in
     (rw (next-ahead c) (f .aheads _ (seats (c .before .before .before .before .before .before .before) .inside _ l)), next-small (c .before .before .before .before .before .before .before .before .before .args .t1) (c .before .before .before .before .before .before .before .ordered .result) (seats (c .before .before .before .before .before .before .before)) f _ _ l (c .before .before .before .loop .inv .times))
 
-spare-is : (c : tie.After-taken2 Inv-loop μ-loop) → toZ w64 (ofZ w64 (c .taken2 .result)) ≡ aheadIn (c .before .before .before .before .before .before .before .before .before .before .args .t1 .aheads) (seatIn (c .before .before .before .before .before .before .before .before .ordered .result) (c .before .before .before .before .loop .k)) -ℤ pos (c .before .before .before .before .loop .sum + setOf (c .before .before .before .before .before .before .before .before .before .before .args .t1 .times) (seatIn (c .before .before .before .before .before .before .before .before .ordered .result) (c .before .before .before .before .loop .k)))
+spare-is : (c : tie.After-net2 Inv-loop μ-loop) → toZ w64 (ofZ w64 (c .net2 .result)) ≡ aheadIn (c .before .before .before .before .before .before .before .before .before .before .args .t1 .aheads) (seatIn (c .before .before .before .before .before .before .before .before .ordered .result) (c .before .before .before .before .loop .k)) -ℤ pos (c .before .before .before .before .loop .sum + setOf (c .before .before .before .before .before .before .before .before .before .before .args .t1 .times) (seatIn (c .before .before .before .before .before .before .before .before .ordered .result) (c .before .before .before .before .loop .k)))
 spare-is c =
-    let e : toZ w64 (ofZ w64 (c .taken2 .result)) ≡ c .taken2 .result = search needs in
-    e ∙ c .taken2 .ensures ∙ ap (λ (z : ℤ). z -ℤ pos (c .before .before .before .before .loop .sum + setOf (c .before .before .before .before .before .before .before .before .before .before .args .t1 .times) (seatIn (c .before .before .before .before .before .before .before .before .ordered .result) (c .before .before .before .before .loop .k)))) (next-ahead (c .before))
+    let e : toZ w64 (ofZ w64 (c .net2 .result)) ≡ c .net2 .result = search needs in
+    e ∙ c .net2 .ensures ∙ ap (λ (z : ℤ). z -ℤ pos (c .before .before .before .before .loop .sum + setOf (c .before .before .before .before .before .before .before .before .before .before .args .t1 .times) (seatIn (c .before .before .before .before .before .before .before .before .ordered .result) (c .before .before .before .before .loop .k)))) (next-ahead (c .before))
 
 add-k : tie.Need-add-k Inv-loop μ-loop
 add-k c = let l = c .before .before .before .before .loop-test .taken in let f = c .before .before .before .before .before .before .before .before .before .before .before .pre .0 .few in omega arith
@@ -114,10 +114,10 @@ loop-again : tie.Need-loop-again Inv-loop μ-loop
 loop-again c =
     elim (c .if1 .came) [
       | inl w ↦
-          subst (λ (x : ℕ). Turned (c .before .before .before .before .before .before .before .before .before .before .before .args .t1) (c .before .before .before .before .before .before .before .before .before .ordered .result) (c .before .before .before .before .before .loop .sum + setOf (c .before .before .before .before .before .before .before .before .before .before .before .args .t1 .times) (seatIn (c .before .before .before .before .before .before .before .before .before .ordered .result) (c .before .before .before .before .before .loop .k))) (toZ w64 x) (c .before .before .before .before .before .loop .k + 1)) (sym (w .1))
+          subst (λ (x : ℕ). LeastTo (c .before .before .before .before .before .before .before .before .before .before .before .args .t1) (c .before .before .before .before .before .before .before .before .before .ordered .result) (c .before .before .before .before .before .loop .sum + setOf (c .before .before .before .before .before .before .before .before .before .before .before .args .t1 .times) (seatIn (c .before .before .before .before .before .before .before .before .before .ordered .result) (c .before .before .before .before .before .loop .k))) (toZ w64 x) (c .before .before .before .before .before .loop .k + 1)) (sym (w .1))
           (turned-less (c .before .before .before .before .before .before .before .before .before .before .before .args .t1) (c .before .before .before .before .before .before .before .before .before .ordered .result) (seats (c .before .before .before .before .before .before .before .before .before)) _ _ _ _ (c .before .before .before .before .before .loop .inv) (c .before .before .before .before .loop-test .taken) (spare-is (c .before)) (test-less (w .0 .taken)))
       | inr w ↦
-          subst (λ (x : ℕ). Turned (c .before .before .before .before .before .before .before .before .before .before .before .args .t1) (c .before .before .before .before .before .before .before .before .before .ordered .result) (c .before .before .before .before .before .loop .sum + setOf (c .before .before .before .before .before .before .before .before .before .before .before .args .t1 .times) (seatIn (c .before .before .before .before .before .before .before .before .before .ordered .result) (c .before .before .before .before .before .loop .k))) (toZ w64 x) (c .before .before .before .before .before .loop .k + 1)) (sym (w .1))
+          subst (λ (x : ℕ). LeastTo (c .before .before .before .before .before .before .before .before .before .before .before .args .t1) (c .before .before .before .before .before .before .before .before .before .ordered .result) (c .before .before .before .before .before .loop .sum + setOf (c .before .before .before .before .before .before .before .before .before .before .before .args .t1 .times) (seatIn (c .before .before .before .before .before .before .before .before .before .ordered .result) (c .before .before .before .before .before .loop .k))) (toZ w64 x) (c .before .before .before .before .before .loop .k + 1)) (sym (w .1))
           (turned-more (c .before .before .before .before .before .before .before .before .before .before .before .args .t1) (c .before .before .before .before .before .before .before .before .before .ordered .result) (seats (c .before .before .before .before .before .before .before .before .before)) _ _ _ _ (c .before .before .before .before .before .loop .inv) (c .before .before .before .before .loop-test .taken) (spare-is (c .before)) (test-not (w .0 .left)))
     ]
 
@@ -135,9 +135,9 @@ least-spec =
     cast-first
     mul-sum
     element-copy-out-sum
-    mul-taken
-    element-copy-out-taken
-    taken-requires
+    mul-net
+    element-copy-out-net
+    net-requires
     loop-holds
     mul-i
     array-read-i
@@ -145,9 +145,9 @@ least-spec =
     mul-load
     element-copy-out-load
     add-load
-    mul-taken-2
-    element-copy-out-taken-2
-    taken-requires-2
+    mul-net-2
+    element-copy-out-net-2
+    net-requires-2
     add-k
     loop-less
     loop-again

@@ -2,7 +2,7 @@
 use mathlib.Core.Path.{sym}
 use borrow.Author.Needs.{needs}
 use borrow.Author.Tests.{not-true, not-false}
-use Rattle.drive.proofs.Checks.{tells-yes, tells-no}
+use Rattle.show.proofs.Checks.{tells-yes, tells-no}
 use Rattle.verdict.proofs.given.held.Statement.{statement}
 use Rattle.verdict.proofs.given.held.Tie as tie
 

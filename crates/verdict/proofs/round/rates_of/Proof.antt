@@ -3,7 +3,7 @@ use Prim.Native.Nat.{_-_}
 use mathlib.Core.Path.{refl}
 use native.Mathlib.Omega.{arith}
 use borrow.Author.Needs.{needs}
-use Rattle.drive.proofs.Lists.{filled-none}
+use Rattle.show.proofs.Lists.{filled-none}
 use Rattle.verdict.specs.Steps.{ratesOf}
 use Rattle.verdict.proofs.Sets.{Filled, row-begun, row-body, row-ended}
 use Rattle.verdict.proofs.round.rates_of.Statement.{statement}

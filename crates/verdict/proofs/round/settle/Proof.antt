@@ -7,8 +7,8 @@ use mathlib.Core.Logic.{⊎-elim}
 use native.Mathlib.Omega.{arith}
 use borrow.Author.Needs.{needs}
 use lib.ListN.{getD, set}
-use Rattle.drive.specs.declared.Show.{Show}
-use Rattle.drive.specs.Limits.{ShowWithin}
+use Rattle.show.specs.declared.Show.{Show}
+use Rattle.show.specs.Limits.{ShowWithin}
 use Rattle.cost.proofs.Costs.{laid-below, layout-within}
 use Rattle.theory.specs.Counts.{unit}
 use Rattle.theory.specs.Rounds.{asked, Fits}
@@ -16,12 +16,12 @@ use Rattle.theory.specs.Shows.{loadOf}
 use Rattle.verdict.specs.Steps.{ratesOf}
 use Rattle.verdict.proofs.Ends.{fits-early, none-late, none-begun}
 use Rattle.verdict.proofs.Works.{rate-at, count-asked, time-asked, count-few, covered-capped, work-capped}
-use Rattle.verdict.proofs.Turns.{Search, Turned, begun, stays, part, later-below, later-small, changes, turn-begun, settled}
+use Rattle.verdict.proofs.Turns.{Search, TurnTo, begun, stays, part, later-below, later-small, changes, turn-begun, settled}
 use Rattle.verdict.proofs.round.settle.Statement.{statement}
 use Rattle.verdict.proofs.round.settle.Tie as tie
 
 abbrev Inv-loop2 : tie.InvT-loop2
-Inv-loop2 show drive unit end rates covered₀ times₀ t₀ before i₀ covered times t i = Turned show end before covered times t i
+Inv-loop2 show drive unit end rates covered₀ times₀ t₀ before i₀ covered times t i = TurnTo show end before covered times t i
 
 abbrev μ-loop2 : tie.MeasureT-loop2
 μ-loop2 show drive unit end rates covered₀ times₀ t₀ before i₀ covered times t i = show .playing - i
@@ -153,7 +153,7 @@ array-write-times c = few (c .before .before .before .before .before .before)
 -- A turn that changes a count.
 changed :
     (c : tie.Else3 Inv-loop2 μ-loop2 Inv-loop μ-loop) →
-    Turned (show (c .before .before .before .before .before .before)) (c .before .before .before .before .before .before .before .before .before .before .before .end-of .result) (c .before .before .before .before .before .before .before .before .loop .t)
+    TurnTo (show (c .before .before .before .before .before .before)) (c .before .before .before .before .before .before .before .before .before .before .before .end-of .result) (c .before .before .before .before .before .before .before .before .loop .t)
     (set (c .before .before .before .before .before .before .before .loop2 .covered) (c .before .before .before .before .before .before .before .loop2 .i) ((getD (c .before .before .before .before .before .before .before .before .before .rates-of .result) (c .before .before .before .before .before .before .before .loop2 .i) 0 * c .before .before .before .before .before .before .before .loop2 .t / unit (loadOf (show (c .before .before .before .before .before .before))) + 1) * unit (loadOf (show (c .before .before .before .before .before .before)))))
     (set (c .before .before .before .before .before .before .before .loop2 .times) (c .before .before .before .before .before .before .before .loop2 .i) (c .before .takes .result))
     (c .before .before .before .before .before .before .before .loop2 .t - getD (c .before .before .before .before .before .before .before .loop2 .times) (c .before .before .before .before .before .before .before .loop2 .i) 0 + c .before .takes .result) (c .before .before .before .before .before .before .before .loop2 .i + 1)

@@ -2,11 +2,11 @@
 use mathlib.Core.Path.{_≡_, sym, ap, _∙_}
 use native.Mathlib.Omega.{arith}
 use borrow.Author.Needs.{needs}
-use Rattle.drive.specs.declared.Show.{Show}
-use Rattle.drive.specs.declared.refusal.Check.the-variants.{Within}
-use Rattle.drive.specs.Checks.{showCheck}
-use Rattle.drive.specs.Limits.{ShowWithin}
-use Rattle.drive.proofs.Shows.{check-within}
+use Rattle.show.specs.declared.Show.{Show}
+use Rattle.show.specs.declared.refusal.Check.the-variants.{Within}
+use Rattle.show.specs.Checks.{showCheck}
+use Rattle.show.specs.Limits.{ShowWithin}
+use Rattle.show.proofs.Shows.{check-within}
 use Rattle.cost.proofs.Costs.{laid-below, layout-within}
 use Rattle.verdict.specs.declared.worst.Worst.the-variants.{Takes}
 use Rattle.verdict.proofs.Sets.{time-same}

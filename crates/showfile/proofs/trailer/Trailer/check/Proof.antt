@@ -2,8 +2,8 @@
 use mathlib.Core.Path.{sym}
 use native.Mathlib.Omega.{arith}
 use borrow.Author.Tests.{not-true, not-false}
-use Rattle.drive.specs.Limits.{CountsWithin}
-use Rattle.drive.proofs.Checks.{tells-yes, tells-no}
+use Rattle.show.specs.Limits.{CountsWithin}
+use Rattle.show.proofs.Checks.{tells-yes, tells-no}
 use Rattle.showfile.specs.Checks.{Distanced}
 use Rattle.showfile.proofs.Passed.{framed-check}
 use Rattle.showfile.proofs.Stops.{trailer-counts, trailer-distances, trailer-note}

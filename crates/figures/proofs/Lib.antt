@@ -1,5 +1,0 @@
-pub mod Values
-pub mod Pairs
-pub mod Puts
-pub mod Laws
-pub mod Worked

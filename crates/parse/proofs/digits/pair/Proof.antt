@@ -1,0 +1,65 @@
+-- `pair` is 16 times its first digit and its second. Assumes nothing.
+use mathlib.Core.Path.{sym, _∙_}
+use native.Mathlib.Omega.{arith}
+use Rattle.parse.proofs.Pairs.{hex-small, no-high, no-low, both}
+use borrow.Author.Needs.{needs}
+use Rattle.parse.proofs.digits.pair.Statement.{statement}
+use Rattle.parse.proofs.digits.pair.Tie as tie
+
+hex-digit-requires : tie.Need-hex-digit-requires
+hex-digit-requires c κs = search needs
+
+enum-known-upper : tie.Need-enum-known-upper
+enum-known-upper c = search needs
+
+enum-told : tie.Need-enum-told
+enum-told c = search needs
+
+returns : tie.Need-returns
+returns c = no-high _ _ (sym (c .before .before .hex-digit .ensures) ∙ c .enum-told .given .1)
+
+hex-digit-requires-2 : tie.Need-hex-digit-requires-2
+hex-digit-requires-2 c κs = search needs
+
+enum-known-lower : tie.Need-enum-known-lower
+enum-known-lower c = search needs
+
+enum-told-2 : tie.Need-enum-told-2
+enum-told-2 c = search needs
+
+returns-2 : tie.Need-returns-2
+returns-2 c =
+    no-low _ _ _ (sym (c .before .before .before .before .before .before .hex-digit .ensures) ∙ c .before .before .before .before .upper .given .1)
+    (sym (c .before .before .hex-digit2 .ensures) ∙ c .enum-told2 .given .1)
+
+mul-b : tie.Need-mul-b
+mul-b c =
+    let h = hex-small _ _ (sym (c .before .before .before .before .before .before .before .hex-digit .ensures) ∙ c .before .before .before .before .before .upper .given .1) in
+    record { fits = omega arith }
+
+add-b : tie.Need-add-b
+add-b c =
+    let h = hex-small _ _ (sym (c .before .before .before .before .before .before .before .hex-digit .ensures) ∙ c .before .before .before .before .before .upper .given .1) in
+    let l = hex-small _ _ (sym (c .before .before .before .hex-digit2 .ensures) ∙ c .before .lower .given .1) in
+    record { fits = omega arith }
+
+returns-3 : tie.Need-returns-3
+returns-3 c =
+    both _ _ _ _ (sym (c .before .before .before .before .before .before .before .hex-digit .ensures) ∙ c .before .before .before .before .before .upper .given .1)
+    (sym (c .before .before .before .hex-digit2 .ensures) ∙ c .before .lower .given .1)
+
+pub pair-spec : {M : Type 1} → statement M
+pair-spec =
+    tie.close
+    (tie.spec
+    hex-digit-requires
+    enum-known-upper
+    enum-told
+    returns
+    hex-digit-requires-2
+    enum-known-lower
+    enum-told-2
+    returns-2
+    mul-b
+    add-b
+    returns-3)

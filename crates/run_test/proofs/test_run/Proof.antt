@@ -1,0 +1,175 @@
+-- `test_run` tells whether a run record is sound. Invariant: the first i states are; what falls: playing - i. Assumes nothing.
+use Prim.Native.Nat.{_-_}
+use mathlib.Core.Path.{_∙_}
+use mathlib.Core.Logic.{inl, inr}
+use native.Mathlib.Omega.{arith}
+use borrow.Author.Tests.{not-true, not-false}
+use Rattle.show.specs.Limits.{ShowWithin}
+use Rattle.show.proofs.Checks.{tells-yes, tells-no}
+use Rattle.theory.specs.Counts.{Good}
+use Rattle.theory.specs.Shows.{loadOf}
+use Rattle.verdict.specs.Answers.{setOf}
+use Rattle.run.specs.Sound.{NamesEach}
+use Rattle.run.proofs.Orders.{names-below}
+use Rattle.run_test.specs.Steps.{AtPlace}
+use Rattle.run_test.proofs.Tests.{trial-good, trial-bad, StatesTo, states-none, states-more, states-all, cycle-rests, cycle-nowhere, cycle-reads, test-damaged, test-cycle}
+use borrow.Author.Needs.{needs}
+use Rattle.run_test.proofs.test_run.Statement.{statement}
+use Rattle.run_test.proofs.test_run.Tie as tie
+
+abbrev Inv-loop : tie.InvT-loop
+Inv-loop run show counts i₀ i = StatesTo run i
+
+abbrev μ-loop : tie.MeasureT-loop
+μ-loop run show counts i₀ i = run .show .playing - i
+
+tried-requires : tie.Need-tried-requires Inv-loop μ-loop
+tried-requires c κs = search needs
+
+enum-told : tie.Need-enum-told Inv-loop μ-loop
+enum-told c = search needs
+
+returns : tie.Need-returns Inv-loop μ-loop
+returns c =
+    test-damaged _ (λ s. trial-bad _ _ _ (c .before .tried .ensures)
+    (λ e. elim (rw e at (c .match .keys2)) [ inl a ↦ (let f : ⊥ = omega arith in f) | inr b ↦ (let f : ⊥ = omega arith in f) ]) (s .within) (s .counts))
+
+good : (c : tie.After-enum-told Inv-loop μ-loop) → ShowWithin (c .before .before .before .before .before .args .t1 .show) × Good (loadOf (c .before .before .before .before .before .args .t1 .show)) (setOf (c .before .before .before .before .before .args .t1 .counts))
+good c = trial-good _ _ _ (c .before .before .tried .ensures) (c .enum-told .given .1)
+
+loop-holds : tie.Need-loop-holds Inv-loop μ-loop
+loop-holds c = states-none _
+
+mul-within : tie.Need-mul-within Inv-loop μ-loop
+mul-within c = let l = c .loop-test .taken in let h = good (c .before .before) .0 .counts .sessions in omega arith
+
+element-copy-out-within : tie.Need-element-copy-out-within Inv-loop μ-loop
+element-copy-out-within c = let l = c .loop-test .taken in let h = good (c .before .before) .0 .counts .sessions in omega arith
+
+mul-within-2 : tie.Need-mul-within-2 Inv-loop μ-loop
+mul-within-2 c = let l = c .before .loop-test .taken in let h = good (c .before .before .before) .0 .counts .sessions in omega arith
+
+element-copy-out-within-2 : tie.Need-element-copy-out-within-2 Inv-loop μ-loop
+element-copy-out-within-2 c = let l = c .before .loop-test .taken in let h = good (c .before .before .before) .0 .counts .sessions in omega arith
+
+within-requires : tie.Need-within-requires Inv-loop μ-loop
+within-requires c κs = search needs
+
+returns-2 : tie.Need-returns-2 Inv-loop μ-loop
+returns-2 c =
+    test-damaged _ (λ s. tells-no _ (c .before .within .result) (not-true _ (c .if1 .taken)) (c .before .within .ensures) (s .states _ (c .before .before .before .before .loop-test .taken)))
+
+add-i : tie.Need-add-i Inv-loop μ-loop
+add-i c = let l = c .before .before .before .before .loop-test .taken in omega arith
+
+loop-less : tie.Need-loop-less Inv-loop μ-loop
+loop-less c = let l = c .before .before .before .before .loop-test .taken in omega arith
+
+loop-again : tie.Need-loop-again Inv-loop μ-loop
+loop-again c =
+    states-more _ _ (c .before .before .before .before .before .loop .inv) (c .before .before .before .before .loop-test .taken)
+    (tells-yes _ (c .before .within .result) (not-false _ (c .if1 .left)) (c .before .within .ensures))
+
+names-each-requires : tie.Need-names-each-requires Inv-loop μ-loop
+names-each-requires c κs = good (c .before .before .before) .0 .counts .sessions
+
+returns-3 : tie.Need-returns-3 Inv-loop μ-loop
+returns-3 c = test-damaged _ (λ s. tells-no _ (c .before .names-each .result) (not-true _ (c .if2 .taken)) (c .before .names-each .ensures) (s .order))
+
+names : (c : tie.Else2 Inv-loop μ-loop) → NamesEach (c .before .before .before .before .before .before .before .before .before .before .args .t1 .order) (c .before .before .before .before .before .before .before .before .before .before .args .t1 .show .playing)
+names c = tells-yes _ (c .before .names-each .result) (not-false _ (c .if2 .left)) (c .before .names-each .ensures)
+
+rests-requires : tie.Need-rests-requires Inv-loop μ-loop
+rests-requires c κs = search needs
+
+told-requires : tie.Need-told-requires Inv-loop μ-loop
+told-requires c κs = search needs
+
+returns-4 : tie.Need-returns-4 Inv-loop μ-loop
+returns-4 c =
+    c .told .ensures
+    ∙ test-cycle _ (good (c .before .before .before .before .before .before .before .before) .0) (good (c .before .before .before .before .before .before .before .before) .1) (states-all _ _ (c .before .before .before .before .before .before .before .loop .inv) (c .before .before .before .before .before .before .loop-test .left)) (names (c .before .before .before))
+    (c .before .rests .result) (cycle-rests _ (c .before .before .if3 .taken) (c .before .rests .result) (c .before .rests .ensures))
+
+turns-requires : tie.Need-turns-requires Inv-loop μ-loop
+turns-requires c κs = (good (c .before .before .before .before .before .before) .0 .counts .sessions, names (c .before))
+
+returns-5 : tie.Need-returns-5 Inv-loop μ-loop
+returns-5 c =
+    test-damaged _ (λ s. cycle-nowhere _ (c .before .before .if3 .left)
+    (tells-no _ (c .before .turns .result) (not-true _ (c .if4 .taken)) (c .before .turns .ensures)) (s .cycle))
+
+placed :
+    (c : tie.Else4 Inv-loop μ-loop) →
+    AtPlace (c .before .before .before .before .before .before .before .before .before .before .before .before .before .args .t1 .order) (c .before .before .before .before .before .before .before .before .before .before .before .before .before .args .t1 .counts) (c .before .before .before .before .before .before .before .before .before .before .before .before .before .args .t1 .show .playing) (c .before .before .before .before .before .before .before .before .before .before .before .before .before .args .t1 .place) (c .before .before .before .before .before .before .before .before .before .before .before .before .before .args .t1 .left)
+placed c = tells-yes _ (c .before .turns .result) (not-false _ (c .if4 .left)) (c .before .turns .ensures)
+
+mul-seat : tie.Need-mul-seat Inv-loop μ-loop
+mul-seat c = let p = placed c .inside in let h = good (c .before .before .before .before .before .before .before .before) .0 .counts .sessions in omega arith
+
+array-read-seat : tie.Need-array-read-seat Inv-loop μ-loop
+array-read-seat c = let p = placed c .inside in let h = good (c .before .before .before .before .before .before .before .before) .0 .counts .sessions in omega arith
+
+cast-seat : tie.Need-cast-seat Inv-loop μ-loop
+cast-seat c = let b = names-below _ _ (names (c .before .before .before)) _ (placed c .inside) in let h = good (c .before .before .before .before .before .before .before .before) .0 .counts .sessions in omega arith
+
+mul-may-read : tie.Need-mul-may-read Inv-loop μ-loop
+mul-may-read c = let b = names-below _ _ (names (c .before .before .before)) _ (placed c .inside) in let h = good (c .before .before .before .before .before .before .before .before) .0 .counts .sessions in omega arith
+
+element-copy-out-may-read : tie.Need-element-copy-out-may-read Inv-loop μ-loop
+element-copy-out-may-read c = let b = names-below _ _ (names (c .before .before .before)) _ (placed c .inside) in let h = good (c .before .before .before .before .before .before .before .before) .0 .counts .sessions in omega arith
+
+mul-may-read-2 : tie.Need-mul-may-read-2 Inv-loop μ-loop
+mul-may-read-2 c = let b = names-below _ _ (names (c .before .before .before .before)) _ (placed (c .before) .inside) in let h = good (c .before .before .before .before .before .before .before .before .before) .0 .counts .sessions in omega arith
+
+element-copy-out-may-read-2 : tie.Need-element-copy-out-may-read-2 Inv-loop μ-loop
+element-copy-out-may-read-2 c = let b = names-below _ _ (names (c .before .before .before .before)) _ (placed (c .before) .inside) in let h = good (c .before .before .before .before .before .before .before .before .before) .0 .counts .sessions in omega arith
+
+may-read-requires : tie.Need-may-read-requires Inv-loop μ-loop
+may-read-requires c κs = search needs
+
+told-requires-2 : tie.Need-told-requires-2 Inv-loop μ-loop
+told-requires-2 c κs = search needs
+
+returns-6 : tie.Need-returns-6 Inv-loop μ-loop
+returns-6 c =
+    c .told2 .ensures
+    ∙ test-cycle _ (good (c .before .before .before .before .before .before .before .before .before .before .before .before) .0) (good (c .before .before .before .before .before .before .before .before .before .before .before .before) .1) (states-all _ _ (c .before .before .before .before .before .before .before .before .before .before .before .loop .inv) (c .before .before .before .before .before .before .before .before .before .before .loop-test .left)) (names (c .before .before .before .before .before .before .before))
+    (c .before .may-read .result) (cycle-reads _ (c .before .before .before .before .before .before .if3 .left) (placed (c .before .before .before .before)) (c .before .may-read .result) (c .before .may-read .ensures))
+
+pub test-run-spec : {M : Type 1} → statement M
+test-run-spec =
+    tie.close
+    (tie.spec
+    Inv-loop
+    μ-loop
+    tried-requires
+    enum-told
+    returns
+    loop-holds
+    mul-within
+    element-copy-out-within
+    mul-within-2
+    element-copy-out-within-2
+    within-requires
+    returns-2
+    add-i
+    loop-less
+    loop-again
+    names-each-requires
+    returns-3
+    rests-requires
+    told-requires
+    returns-4
+    turns-requires
+    returns-5
+    mul-seat
+    array-read-seat
+    cast-seat
+    mul-may-read
+    element-copy-out-may-read
+    mul-may-read-2
+    element-copy-out-may-read-2
+    may-read-requires
+    told-requires-2
+    returns-6)

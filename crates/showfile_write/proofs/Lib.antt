@@ -1,0 +1,12 @@
+pub mod ByteLaws
+pub mod RowLaws
+pub mod Sizes
+pub mod Passed
+pub mod Stops
+pub mod Filed
+pub mod Unused
+pub mod Words
+pub mod Records
+pub mod Parts
+pub mod Trip
+pub mod UnusedAgain

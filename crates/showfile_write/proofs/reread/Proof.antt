@@ -1,0 +1,72 @@
+-- `reread` reads what it wrote. Assumes nothing.
+use mathlib.Core.Path.{_≡_, sym, _∙_}
+use lib.ListN.{length}
+use lib.Seq.{length-take-le}
+use Rattle.show.proofs.Lists.{unmapped}
+use Rattle.showfile_write.proofs.Trip.{reread-refused, reread-inside, reread-answers}
+use borrow.Author.Needs.{needs}
+use Rattle.showfile_write.proofs.reread.Statement.{statement}
+use Rattle.showfile_write.proofs.reread.Tie as tie
+
+layouts-eight : (c : tie.Start) → length (c .args .show .layouts) ≡ 8
+layouts-eight c = search (unmapped, needs)
+
+sessions-sixteen : (c : tie.Start) → length (c .args .show .sessions) ≡ 16
+sessions-sixteen c = search (unmapped, needs)
+
+write-requires : tie.Need-write-requires
+write-requires c κs = search needs
+
+enum-known-check : tie.Need-enum-known-check
+enum-known-check c = search needs
+
+refused-requires : tie.Need-refused-requires
+refused-requires c κs = search needs
+
+same-length : tie.Need-same-length
+same-length c = search needs
+
+returns : tie.Need-returns
+returns c =
+    let w = c .before .before .before .before .before .before .write .ensures in
+    (c .refused .ensures ∙ reread-refused _ _ _ (w .0) (w .1) (c .before .before .check .given .1), w .1)
+
+enum-told : tie.Need-enum-told
+enum-told c = search needs
+
+slice-reshare-prefix-read : tie.Need-slice-reshare-prefix-read
+slice-reshare-prefix-read c =
+    let w = c .before .before .before .before .write .ensures in
+    reread-inside _ _ _ (w .0) (w .1) (c .enum-told .given .1)
+
+slice-aggregate-read : tie.Need-slice-aggregate-read
+slice-aggregate-read c =
+    let w = c .before .before .before .before .before .write .ensures in
+    sym (length-take-le _ _ (reread-inside _ _ _ (w .0) (w .1) (c .before .enum-told .given .1)))
+
+read-requires : tie.Need-read-requires
+read-requires c κs = search needs
+
+same-length-2 : tie.Need-same-length-2
+same-length-2 c = search needs
+
+returns-2 : tie.Need-returns-2
+returns-2 c =
+    let w = c .before .before .before .before .before .before .write .ensures in
+    (c .read .ensures ∙ reread-answers _ _ _ (w .0) (w .1) (c .before .before .enum-told .given .1) (layouts-eight (c .before .before .before .before .before .before .before .before .before .before)) (sessions-sixteen (c .before .before .before .before .before .before .before .before .before .before)), w .1)
+
+pub reread-spec : {M : Type 1} → statement M
+reread-spec =
+    tie.close
+    (tie.spec
+    write-requires
+    enum-known-check
+    refused-requires
+    same-length
+    returns
+    enum-told
+    slice-reshare-prefix-read
+    slice-aggregate-read
+    read-requires
+    same-length-2
+    returns-2)
