@@ -21,7 +21,7 @@ use Rattle.run.specs.Answers.{presentCheck}
 use Rattle.run.specs.Laws.{Kept}
 use Rattle.run.proofs.Answered.{moved-check, moved-either, moved-back}
 use Rattle.run.proofs.Steps.{passed-sound, drawnAt-sound, landed-sound, read-below}
-use Rattle.run.proofs.Rest.{same-kept, passed-kept, drawn-kept, landed-kept, kept-then}
+use Rattle.run.proofs.Rest.{same-kept, passed-kept, taken-kept, landed-kept, kept-then}
 use Rattle.player.specs.Answers.{earlyCheck, heldCheck, drawnOf}
 use Rattle.playback.specs.Answers.{spanCheck, passCheck, passOf, takeCheck, takeOf}
 use Rattle.playback.specs.Answers.{busyCheck, finishCheck, landedFor, finishOf}
@@ -69,11 +69,11 @@ module _ (r : Run) (i n : ℕ) where
   unfolding takeOf
   take-sound k s =
       moved-either (takeCheck r i n) r (drawnAt r i n) SoundRun s
-      (λ e. (let t = takes e in drawn-sound r i n k s (t .playing) (t .started) (t .held)))
+      (λ e. (let t = takes e in taken-sound r i n k s (t .playing) (t .started) (t .held)))
 
   pub take-kept : Kept r (takeOf r i n .run)
   unfolding takeOf
-  take-kept = moved-either (takeCheck r i n) r (drawnAt r i n) (Kept r) (same-kept r) (λ e. drawn-kept r i n (takes e .playing))
+  take-kept = moved-either (takeCheck r i n) r (drawnAt r i n) (Kept r) (same-kept r) (λ e. taken-kept r i n (takes e .playing))
 
   pub take-refused : (w : Refusal) → takeOf r i n .check ≡ Refused w → takeOf r i n .run ≡ r
   unfolding takeOf

@@ -260,8 +260,8 @@ module _ (r q : Run) (a : AlikeRuns r q) where
             ∙ ticks i l
             ∙ sym (changed-below (tickedAt q d) (playing q) (q .states) i (omega arith) (omega arith))))
 
-    pub drawn-alike : (i k : ℕ) → i < playing r → AlikeRuns (drawnAt r i k) (drawnAt q i k)
+    pub taken-alike : (i k : ℕ) → i < playing r → AlikeRuns (drawnAt r i k) (drawnAt q i k)
     unfolding drawnAt
-    drawn-alike i k l =
+    taken-alike i k l =
         states-alike _ _
         (set-alike (r .states) (q .states) noState (playing r) i _ _ (few r n s) few-too (ap (drawn k) (a .states i l)) (a .states))

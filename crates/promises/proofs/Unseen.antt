@@ -57,7 +57,7 @@ use Rattle.promises.specs.Runs.{Sized}
 use Rattle.promises.specs.Unseen.{AlikeRuns, SameMoved, SameChosen, SameSpared, SameOpened, Unseen}
 use Rattle.promises.proofs.Runs.{few}
 use Rattle.promises.proofs.Alike.{same-runs, back, room-alike, put-alike, onward-alike, whole-alike, still-sound, sound-same, first-same, moved-same}
-use Rattle.promises.proofs.Alike.{spared-same, sound-passed, set-alike, states-alike, cycle-alike, session-same, few-too, passed-alike, drawn-alike}
+use Rattle.promises.proofs.Alike.{spared-same, sound-passed, set-alike, states-alike, cycle-alike, session-same, few-too, passed-alike, taken-alike}
 
 -- ---- pass and take
 
@@ -87,7 +87,7 @@ module _ (r q : Run) (n : Sized r) (m : Sized q) (a : AlikeRuns r q) where
       granted e =
           let late = first (earlyCheck (r .started)) (heldCheck (stateAt r i) k) in
           let f = first-left (presentCheck r i) late (first-right (soundCheck r) (first (presentCheck r i) late) e) in
-          drawn-alike r q a n m (sound-passed r (first (presentCheck r i) late) e) i k
+          taken-alike r q a n m (sound-passed r (first (presentCheck r i) late) e) i k
           (unless-within (decLt i (playing r)) refusal.NoSession f)
 
 -- ---- workahead

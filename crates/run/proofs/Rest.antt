@@ -64,9 +64,9 @@ module _ (r : Run) where
           states-kept _ (λ i h. changed-above (tickedAt r d) (playing r) (r .states) i h)
           (changed-length (tickedAt r d) (playing r) (r .states))
 
-  pub drawn-kept : (i n : ℕ) → i < playing r → Kept r (drawnAt r i n)
+  pub taken-kept : (i n : ℕ) → i < playing r → Kept r (drawnAt r i n)
   unfolding drawnAt
-  drawn-kept i n l = set-kept i _ l
+  taken-kept i n l = set-kept i _ l
 
   pub idled-kept : Kept r (idled r)
   unfolding idled

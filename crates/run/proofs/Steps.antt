@@ -175,11 +175,11 @@ passed-sound r d n s = from (r .started) refl
         (λ i l. rw (changed-below (tickedAt r d) (playing r) (r .states) i l n) (ticked-sound (s .states i l) _ d e))
         (λ i l. rw (changed-below (tickedAt r d) (playing r) (r .states) i l n) (record { put = refl; taken = le-refl _ }))
 
-pub drawn-sound :
+pub taken-sound :
     (r : Run) (i n : ℕ) → playing r ≤ length (r .states) → SoundRun r → i < playing r → r .started ≡ true →
     n ≤ stateAt r i .put - stateAt r i .taken → SoundRun (drawnAt r i n)
 unfolding drawnAt
-drawn-sound r i n k s l e h =
+taken-sound r i n k s l e h =
     replaced-sound r s _ (set-sound r s i _ k l (drawn-sound (s .states i l) n e h))
     (set-each (λ j t. Later (stateAt r j) t) (r .states) (playing r) i _ k l (record { put = refl; taken = omega arith })
     (λ j m. same-later))
