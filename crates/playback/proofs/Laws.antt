@@ -20,7 +20,7 @@ use Rattle.run.specs.Steps.{passed, drawnAt, landed}
 use Rattle.run.specs.Answers.{presentCheck}
 use Rattle.run.specs.Laws.{Kept}
 use Rattle.run.proofs.Answered.{moved-check, moved-either, moved-back}
-use Rattle.run.proofs.Steps.{passed-sound, drawnAt-sound, landed-sound, read-below}
+use Rattle.run.proofs.Steps.{passed-sound, taken-sound, landed-sound, read-below}
 use Rattle.run.proofs.Rest.{same-kept, passed-kept, taken-kept, landed-kept, kept-then}
 use Rattle.player.specs.Answers.{earlyCheck, heldCheck, drawnOf}
 use Rattle.playback.specs.Answers.{spanCheck, passCheck, passOf, takeCheck, takeOf}
