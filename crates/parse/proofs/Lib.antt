@@ -1,6 +1,8 @@
 pub mod Turns
 pub mod PartLaws
+pub mod Places
 pub mod WorkedParts
+pub mod WorkedPlaces
 pub mod Values
 pub mod Pairs
 pub mod Puts

@@ -9,6 +9,7 @@ ghost use Rattle.parse.specs.Numbers.{decimalOf};
 ghost use Rattle.parse.specs.Bytes.{bytesOf, countOf, putOf, listOf};
 ghost use Rattle.show.specs.Limits.{Tells};
 ghost use Rattle.parse.specs.Parts.{findOf, partsOf, restOf, partOf};
+ghost use Rattle.parse.specs.Places.{PlaceIs};
 use crate::digits::byte;
 use crate::digits::longer;
 use crate::digits::pair;
@@ -177,4 +178,19 @@ pub fn same(a: &[u8], b: &[u8]) -> bool
         i += 1;
     }
     true
+}
+
+// Which of the names a word is, counted from 0: the names have one space between. How many names there are, where it is none of them.
+pub fn place_in(names: &[u8], word: &[u8]) -> usize
+    ensures { λ r. ⌜ PlaceIs (now (names .entry)) (now (word .entry)) r ⌝ }
+{
+    let n = parts(names, b' ');
+    let mut k = 0;
+    while k < n {
+        if same(part(names, b' ', k), word) {
+            return k;
+        }
+        k += 1;
+    }
+    n
 }

@@ -42,7 +42,7 @@ module _ (was : List ℕ) (at : ℕ) (t : List ℕ) (none : at + length t ≤ le
 
 -- ---- piece after piece
 
-put-none : (was : List ℕ) (at : ℕ) → Put was at [] was at
+pub put-none : (was : List ℕ) (at : ℕ) → Put was at [] was at
 put-none was at = record { bytes = over-nothing was at; upto = sym (add-zero at) }
 
 pub put-one : (was : List ℕ) (at b : ℕ) → FitsAt was at (b ∷ []) → Put was at (b ∷ []) (set was at b) (at + 1)
@@ -107,7 +107,7 @@ module _ (was : List ℕ) (at : ℕ) (so-far : ℕ → List ℕ) (n : ℕ) where
   pieces-ended out i next h l = put-as (ap so-far (let a = h .inside in omega arith)) (h .put)
 
   module _ (piece : ℕ → List ℕ) (more : (i : ℕ) → i < n → so-far (i + 1) ≡ so-far i ++ piece i) where
-    longer : (i : ℕ) → i ≤ n → length (so-far i) ≤ length (so-far n)
+    pub longer : (i : ℕ) → i ≤ n → length (so-far i) ≤ length (so-far n)
     longer i h =
         le-ind (λ k. k ≤ n → length (so-far i) ≤ length (so-far k)) (λ g. le-refl _)
         (λ k l p g.

@@ -4,3 +4,5 @@ pub mod Numerals
 pub mod Lines
 pub mod Puts
 pub mod Told
+pub mod Forms
+pub mod Hex
