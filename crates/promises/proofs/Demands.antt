@@ -10,6 +10,7 @@ use Rattle.explain.proofs.Texts.{said-once}
 use Rattle.explain.proofs.Explained.{explain-once}
 use Rattle.chikchiro.proofs.Once.{reported-once, decided-once, reasoned-once}
 use Rattle.promises.specs.Demands.{Demands}
+use Rattle.parse.proofs.Places.{place-once}
 use Rattle.promises.proofs.Table.{table}
 use Rattle.promises.proofs.Trips.{trips}
 use Rattle.promises.proofs.Verdict.{verdicts}
@@ -27,6 +28,7 @@ use Rattle.promises.proofs.Refusals.{buffers, empty}
 use Rattle.promises.proofs.Embedded.{embedded}
 use Rattle.promises.proofs.SpareTime.{spare-time}
 use Rattle.promises.proofs.Unseen.{unseen}
+use Rattle.promises.proofs.RuledOut.{ruled-out}
 
 pub demands : Demands
 demands =
@@ -40,6 +42,7 @@ demands =
           record {
             equation = λ meaning x y p q. p ∙ sym q;
             test = tells-once;
+            place = place-once;
             decision = decision-once;
             trial = trial-once;
             opening = open-once;
@@ -52,4 +55,5 @@ demands =
             decided = decided-once;
             reasoned = reasoned-once;
           };
+      ruled-out = ruled-out;
     }

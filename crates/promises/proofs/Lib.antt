@@ -25,4 +25,8 @@ pub mod Alike
 pub mod Unseen
 pub mod OrderForC
 pub mod Embedded
+pub mod Apart
+pub mod RuledOutOfTexts
+pub mod RuledOutOfRuns
+pub mod RuledOut
 pub mod Demands

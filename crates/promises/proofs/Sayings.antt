@@ -87,10 +87,10 @@ ten-overloads =
     overload w (overloaded-exactly (loadOf ten) (show-sound ten w) .0 (le-refl 512000000000))
 
 -- .. and p2 with a buffer of 102,400 a byte short: with the largest the count is 1.
-abbrev one : Show
+abbrev pub one : Show
 one = showOf X (buffered 102400 ∷ [])
 
-one-short : ReasonIs one (reason.Buffer 0 102401)
+pub one-short : ReasonIs one (reason.Buffer 0 102401)
 unfolding showCheck firstBelow counts? drive? layout? session? decLt costOf worstTime edges ceil turns sumTo need all both listed padded
 one-short =
     buffer 0 102401 (check-within one refl)

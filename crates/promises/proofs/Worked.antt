@@ -35,7 +35,7 @@ unfolding told
 from-told (yes h) t = h
 from-told (no h) t = absurd t
 
-eighth-sound : SoundRun eighth
+pub eighth-sound : SoundRun eighth
 unfolding told sound? show? good? below? state? named? some? cycle? false? true? waiting? nothing? room? put? mayRead? underway? counts? drive? layout? session? between? sumTo costOf worstTime edges ceil listed decLe decLt ℕ-discrete Dec·and
 eighth-sound = from-told (sound? eighth) tt
 
@@ -78,7 +78,7 @@ uneven-starts decided =
 
 -- ---- p9 and p10
 
-clocked-first : SoundRun (clocked 0)
+pub clocked-first : SoundRun (clocked 0)
 unfolding told sound? show? good? below? state? named? some? cycle? false? true? waiting? nothing? room? put? mayRead? underway? counts? drive? layout? session? between? sumTo costOf worstTime edges ceil listed decLe decLt ℕ-discrete Dec·and
 clocked-first = from-told (sound? (clocked 0)) tt
 

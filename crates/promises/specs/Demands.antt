@@ -6,6 +6,7 @@ use mathlib.Core.Bool.{Bool}
 use mathlib.Core.List.{List}
 use Rattle.show.specs.declared.Show.{Show}
 use Rattle.show.specs.Limits.{Tells}
+use Rattle.parse.specs.Places.{PlaceIs}
 use Rattle.showfile.specs.declared.Written.{Written}
 use Rattle.verdict.specs.declared.Decision.{Decision}
 use Rattle.verdict.specs.declared.Trial.{Trial}
@@ -31,6 +32,7 @@ use Rattle.promises.specs.Order.{Order}
 use Rattle.promises.specs.Embedded.{Embedded}
 use Rattle.promises.specs.SpareTime.{SpareTime}
 use Rattle.promises.specs.Unseen.{Unseen}
+use Rattle.promises.specs.RuledOut.{RuledOut}
 
 -- Demand 1.
 pub record First : Type 0 where
@@ -83,11 +85,13 @@ pub record Once : Type 1 where
   -- The statement is an equation, of what is answered and of every byte or state that is lent: `Show::nothing`, `Show::check`,
   -- `Refusal::told`, `Cost::of_read`, `worst_time`, `load`, `read`, `note`, `write`, `reread`, `copy`, `Run::with_cycle`, `test_run`,
   -- `pass`, `take`, `finish`, `choose`, `workahead`, `slack`, `start`, the player's `take_from`, `take` and `take_lent`; and, of texts, `find`,
-  -- `parts`, `part`, `decimal`, `unhex`, `put_word`, `put_numbered`.
+  -- `parts`, `part`, `decimal`, `unhex`, `put_word`, `put_numbered`, `put_form`, `put_hex`.
   pub equation : {A : Type 0} (meaning x y : A) → x ≡ meaning → y ≡ meaning → x ≡ y
   -- It tells of a limit, of room, or of two texts: `Drive::within`, `Layout::within`, `Session::within`, `Show::counts_within`, `State::within`,
   -- `State::room`, `same`.
   pub test : (p : Type 0) (a b : Bool) → Tells a p → Tells b p → a ≡ b
+  -- `place_in`
+  pub place : (names word : List ℕ) (a b : ℕ) → PlaceIs names word a → PlaceIs names word b → a ≡ b
   -- `decide`, `tried`, `open`, `why`
   pub decision : (s : Show) (d e : Decision) → DecisionIs s d → DecisionIs s e → d ≡ e
   pub trial : (s : Show) (m : List ℕ) (a b : Trial) → TrialIs s m a → TrialIs s m b → a ≡ b
@@ -108,3 +112,5 @@ pub record Demands : Type 1 where
   pub second : Second
   pub third : Third
   pub once : Once
+  -- Of every public call a wrong answer that its contract rules out, in a situation that can occur. Another is an edit of the code, in must-fail.
+  pub ruled-out : RuledOut

@@ -12,4 +12,7 @@ pub mod SpareTime
 pub mod Answered
 pub mod Unseen
 pub mod Embedded
+pub mod RuledOutOfTexts
+pub mod RuledOutOfRuns
+pub mod RuledOut
 pub mod Demands
