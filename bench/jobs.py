@@ -2,7 +2,7 @@
 import pathlib, sys
 sys.path.insert(0, str(pathlib.Path(__file__).parent.parent / 'tests'))
 from made_shows import X, Z, alike, changed
-from show_answers import encode, hexed
+from show_files import encode, hexed
 
 WHOLE = 5_019_607    # bytes a second that a drive of section 5 with layout X does at most
 

@@ -4,6 +4,12 @@ nothing with the proved code."""
 LAYOUTS, SESSIONS = 8, 16
 WIDEST = 2**30    # the largest buffer
 
+class Refused(Exception):
+    """Its arguments are the number and the place."""
+
+    def __str__(self):
+        return 'refused %d %d' % self.args
+
 def within(value, least, most):
     return least <= value <= most
 
@@ -19,6 +25,10 @@ def session_ok(laid, rate, cushion, buffer, layout):
 def counts_ok(laid, playing):
     return within(laid, 1, LAYOUTS) and playing <= SESSIONS
 
+def test_counts(laid, playing):
+    if not counts_ok(laid, playing):
+        raise Refused(2, 0)
+
 def fault(drive, layouts, sessions):
     """The number and the place of the first of 5, 6 and 7, or None. The lists are the places that are used."""
     if not drive_ok(*drive):
@@ -30,6 +40,11 @@ def fault(drive, layouts, sessions):
         if not session_ok(len(layouts), *x):
             return 7, i
     return None
+
+def test_limits(drive, layouts, sessions):
+    no = fault(drive, layouts, sessions)
+    if no is not None:
+        raise Refused(*no)
 
 def worst_time(cylinder, layout, n):
     longest, track, time, rotation = layout

@@ -1,23 +1,18 @@
-#!/usr/bin/env python3
-"""Writes the lines that the program `players` is run on, the same in every run.
-
-  tests/player_cases.py > crates/players/stdin
-
-What must come of them tests/player_answers.py says.
-"""
-import itertools, sys
+"""Players' takes of one session's state. Cases for tests/rehearsal_cases.py."""
+import itertools
 from dice import Dice
+from made_files import PAST
 from run_rules import MICRO, PUT_MOST
-from verdict_cases import PAST
 
 FAR = 2**64 - 1
 BUFFER = 6000
 FIELDS = 'put', 'got', 'clock', 'rate', 'cushion', 'buffer', 'layout', 'started', 'n'
+BELOW = 2**64, 2**64, 2**64, 2**32, 2**32, 2**32, 2**32, 2, 2**64
 SOUND = dict(put=5000, got=2000, clock=7 * MICRO, rate=512_000, cushion=100, buffer=BUFFER, layout=0, started=1, n=1)
 EARLY = {**SOUND, 'got': 0, 'clock': 0, 'started': 0}
 
 def line(state, **changes):
-    return ' '.join(str({**state, **changes}[field]) for field in FIELDS)
+    return 'player ' + ' '.join(str({**state, **changes}[field]) for field in FIELDS)
 
 # ---- takes
 
@@ -79,22 +74,16 @@ def drawn():
         put = got + dice.between(0, 2 * BUFFER)
         yield line(SOUND, put=put, got=got, clock=dice.between(0, 2 * got * MICRO), n=dice.between(0, put - got + 1), started=dice.between(0, 7) and 1)
 
-# ---- lines that are not nine numbers
-
-def malformed():
-    good, odd = line(SOUND), itertools.cycle(('+1', 'x', '1x', '', '0x1'))
-    yield from ('', ' ', '5', good.rpartition(' ')[0], good + ' 1', good + ' ', ' ' + good, good + '\r', good + '\t')
-    yield from (good.replace(' ', between, 1) for between in ('  ', '\t', ','))
-    for field, limit in zip(FIELDS, (2**64, 2**64, 2**64, 2**32, 2**32, 2**32, 2**32, 2, 2**64)):
-        for word in (limit, 10 * limit + 1, '-1', next(odd)):
-            yield line(SOUND, **{field: word})
+def widest():
+    """The largest number in each place, and zeros before a number."""
+    for field, limit in zip(FIELDS, BELOW):
         yield line(SOUND, **{field: limit - 1})
         yield line(SOUND, **{field: '0' * 25 + str(SOUND[field])})
+    yield line(SOUND)
 
-def main():
-    parts = amounts, held, limits, overtaken, clocks, early, unseen, drawn, malformed
-    lines = [text for part in parts for text in part()] + [line(SOUND)]
-    sys.stdout.write('\n'.join(lines))    # the last line is not ended
+PARTS = amounts, held, limits, overtaken, clocks, early, unseen, drawn, widest
 
-if __name__ == '__main__':
-    main()
+def lines():
+    for part in PARTS:
+        yield 'case player-' + part.__name__
+        yield from part()

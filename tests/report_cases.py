@@ -1,30 +1,23 @@
-#!/usr/bin/env python3
-"""Writes the records that the program `reports` is run on: the files in tests/data, then files made here, the same in every run.
-
-  tests/report_cases.py > crates/reports/stdin
-
-What must come of them tests/report_answers.py says.
-"""
-import itertools, sys
-import why_cases
+"""Files that are reported on and explained: those in tests/data, then files made here. Cases for tests/rehearsal_cases.py."""
+import itertools
+import reason_shows
 from dice import Dice
+from given import table
 from limits import WIDEST
+from made_files import BAD_LAYOUT, BAD_SESSION, Made, noted
 from made_shows import X, Z, alike, buffered, changed
+from script_words import file_of
 from sets import needed, smallest
-from show_answers import encode, table, unhexed
-from show_cases import BAD_LAYOUT, BAD_SESSION, Made, noted
+from show_files import encode, hexed
 
 UNIT = 512 * 10**6    # of blocks of 512 bytes: what a count is multiplied with, where it is compared with R x L
 
-def put(data):
-    sys.stdout.buffer.write(len(data).to_bytes(2, 'little') + data)
-
-def put_show(drive, layouts, sessions, note=b''):
-    put(encode((drive, layouts, sessions), note))
+def showing(drive, layouts, sessions, note=b''):
+    return encode((drive, layouts, sessions), note)
 
 def stored():
     for _, text, _ in table('reads.txt'):
-        put(unhexed(text))
+        yield file_of(text)
 
 # ---- lengths, counts, refusals
 
@@ -32,13 +25,13 @@ LIGHT = (4096, 32), [X] * 7 + [Z], [(1000 * i + 1000, 100, 1_000_000, i % 8) for
 
 def lengths():
     longest = encode(LIGHT, noted(1024))
-    for data in (b'', b'\0', longest[-19:], longest[-20:], longest[:20], bytes(20), longest, longest + b'\0', b'\0' + longest, longest + longest[:172], bytes(172) + longest):
-        put(data)
+    yield from (b'', b'\0', longest[-19:], longest[-20:], longest[:20], bytes(20), longest, longest + b'\0', b'\0' + longest, longest + longest[:172],
+                bytes(172) + longest)
 
 def playing():
     drive, layouts, sessions = LIGHT
     for count in range(17):
-        put_show(drive, layouts, sessions[:count], noted(count))
+        yield showing(drive, layouts, sessions[:count], noted(count))
 
 def refusals():
     """2 to 5 and 8; 6 and 7 at every place, with and without offenders above."""
@@ -46,22 +39,22 @@ def refusals():
     for laid, playing in ((0, 1), (9, 1), (65535, 1), (1, 17), (1, 65535)):
         made = Made(1, 1, noted(700))
         made.laid, made.playing = laid, playing
-        put(made.file())
+        yield made.file()
     for first, second in ((32, 15), (31, 16), (48, 32), (2**32 - 1, 16)):
         made = Made(1, 1, noted(9))
         made.first, made.second = first, second
-        put(made.file())
-    put_show(drive, layouts, sessions[:2], noted(1025))
+        yield made.file()
+    yield showing(drive, layouts, sessions[:2], noted(1025))
     for wrong in ((511, 32), (4096, 0), (66_048, 65_537)):
-        put_show(wrong, layouts, sessions)
+        yield showing(wrong, layouts, sessions)
     for i in range(8):
-        put_show(drive, changed(layouts, i, BAD_LAYOUT[i % 5]), sessions)
-        put_show(drive, layouts[:i] + [BAD_LAYOUT[i % 5]] * (8 - i), changed(sessions, 0, BAD_SESSION[i % 6]))
+        yield showing(drive, changed(layouts, i, BAD_LAYOUT[i % 5]), sessions)
+        yield showing(drive, layouts[:i] + [BAD_LAYOUT[i % 5]] * (8 - i), changed(sessions, 0, BAD_SESSION[i % 6]))
     for i in range(16):
-        put_show(drive, layouts, changed(sessions, i, BAD_SESSION[i % 6]))
-        put_show(drive, layouts, sessions[:i] + [BAD_SESSION[i % 6]] * (16 - i))
-    put_show(*alike(Z, 10))
-    put_show(*alike(X, 1, 102_400))
+        yield showing(drive, layouts, changed(sessions, i, BAD_SESSION[i % 6]))
+        yield showing(drive, layouts, sessions[:i] + [BAD_SESSION[i % 6]] * (16 - i))
+    yield showing(*alike(Z, 10))
+    yield showing(*alike(X, 1, 102_400))
 
 # ---- each column on both sides of each power of ten
 
@@ -80,23 +73,23 @@ def counted(count, cushion, buffer):
 
 def counts():
     for _, count in sides(1, 6):
-        put_show(*counted(count, 1, WIDEST))
+        yield showing(*counted(count, 1, WIDEST))
 
 def buffers():
     """The smallest buffer is the one that there is; and it is a byte more."""
     for _, size in sides(4, 9):
         count = size // 512 - 2
         cushion = size - 512 * (count + 1)
-        put_show(*counted(count, cushion, size))
-        put_show(*counted(count, cushion + 1, size))
+        yield showing(*counted(count, cushion, size))
+        yield showing(*counted(count, cushion + 1, size))
 
 def short_times():
     """U and L of one session; L of sixteen."""
     for _, time in sides(1, 6):
-        put_show((512, 10), [(time // 2, 0, time - time // 2, 0)], [(1, 1, WIDEST, 0)])
+        yield showing((512, 10), [(time // 2, 0, time - time // 2, 0)], [(1, 1, WIDEST, 0)])
     for _, time in sides(2, 7):
         part = time // 16
-        put_show((512, 10), [(0, 0, part, 0), (0, 0, time - 15 * part, 0)], [(1, 1, WIDEST, 0)] * 15 + [(1, 1, WIDEST, 1)])
+        yield showing((512, 10), [(0, 0, part, 0), (0, 0, time - 15 * part, 0)], [(1, 1, WIDEST, 0)] * 15 + [(1, 1, WIDEST, 1)])
 
 def timed(k, time):
     """A session that takes this time, for a count that the others' fixed times call for: as long as they can be, so that the count is just not larger."""
@@ -109,7 +102,7 @@ def timed(k, time):
 
 def times():
     for k, time in sides(7, 12):
-        put_show(*timed(k, time))
+        yield showing(*timed(k, time))
 
 def rounds():
     """L of sixteen that are alike. One microsecond lies between 10^k - 1 and a round that is the next that there is."""
@@ -117,7 +110,7 @@ def rounds():
         scale, count = 10**max(0, 10 - k), 625 * 10**max(0, k - 10)
         spare = min(4000, 2_500_000 // count)
         block, once = 10**6 // scale - spare, spare * count
-        put_show((512, 10), [layout(once, block), layout(once - less, block)], [(32 * scale, 1, WIDEST, 0)] * 15 + [(32 * scale, 1, WIDEST, 1)])
+        yield showing((512, 10), [layout(once, block), layout(once - less, block)], [(32 * scale, 1, WIDEST, 0)] * 15 + [(32 * scale, 1, WIDEST, 1)])
 
 # ---- why
 
@@ -125,22 +118,22 @@ def shorts():
     """The buffer that is needed has each number of digits; and each clip is the one that is short of it."""
     for _, size in sides(4, 9):
         count = size // 512 - 2
-        put_show(*counted(count, size - 512 * (count + 1), max(1, size // 2)))
-    for show in (counted(1, 1, 1), counted(1, 511, 1024), *why_cases.most()):
-        put_show(*show)
-    for show in why_cases.mixed():
+        yield showing(*counted(count, size - 512 * (count + 1), max(1, size // 2)))
+    for show in (counted(1, 1, 1), counted(1, 511, 1024), *reason_shows.most()):
+        yield showing(*show)
+    for show in reason_shows.mixed():
         sizes = needed(show, smallest(show))
         for i in range(16):
-            put_show(*buffered(show, changed(sizes, i, sizes[i] - 1)), noted(i))
-            put_show(*buffered(show, sizes[:i] + [1] * (16 - i)))
-            put_show(*buffered(show, sizes[:i] + [sizes[i] - 1] + [1] * (15 - i)))
+            yield showing(*buffered(show, changed(sizes, i, sizes[i] - 1)), noted(i))
+            yield showing(*buffered(show, sizes[:i] + [1] * (16 - i)))
+            yield showing(*buffered(show, sizes[:i] + [sizes[i] - 1] + [1] * (15 - i)))
 
 def beyonds():
-    for show in itertools.islice(why_cases.beyond(), 0, None, 7):
-        put_show(*show)
+    for show in itertools.islice(reason_shows.beyond(), 0, None, 7):
+        yield showing(*show)
     for rate in (511_900, 511_999, 512_000, 512_001, 513_536, 527_360):
         drive, layouts, sessions = alike(Z, 10, 158_310_401)
-        put_show(drive, layouts, changed(sessions, 9, (rate, *sessions[9][1:])))
+        yield showing(drive, layouts, changed(sessions, 9, (rate, *sessions[9][1:])))
 
 def loads():
     """The load on each side of each power of ten, from 0.0 to 625,000,000.0 per cent; of one clip, and of sixteen."""
@@ -148,30 +141,30 @@ def loads():
     for _, tenth in [*sides(0, 9), (0, 5), (0, 15), (0, 105), (0, 990), (0, 1001), (0, 1003), (0, 1009), (0, 1010), (0, 2**32 - 1), (0, 2**32), (0, 5 * 10**9)]:
         for count, off in ((1, 0), (2, -1), (16, 0), (16, -1)):
             total = 512_000 * tenth + off
-            show = total >= count and why_cases.summing(dice, drive, count, total)
+            show = total >= count and reason_shows.summing(dice, drive, count, total)
             if show:
-                put_show(*show)
-    for show in itertools.islice(why_cases.wide_sums(dice), 0, None, 3):
+                yield showing(*show)
+    for show in itertools.islice(reason_shows.wide_sums(dice), 0, None, 3):
         if show:
-            put_show(*show)
+            yield showing(*show)
     for cylinder, count, rate in itertools.product((1, 65_536), (1, 16), (1, 10**8 - 1, 10**8)):
-        put_show((512, cylinder), [(10**6,) * 4], [(rate, 2**24, WIDEST, 0)] * count)
-        put_show((65_536, cylinder), [(0, 0, 1, 0)], [(rate, 1, WIDEST, 0)] * count)
+        yield showing((512, cylinder), [(10**6,) * 4], [(rate, 2**24, WIDEST, 0)] * count)
+        yield showing((65_536, cylinder), [(0, 0, 1, 0)], [(rate, 1, WIDEST, 0)] * count)
 
 # ---- large
 
 def longest():
     """593 bytes of text, after 673,335 turns: counts of seven digits, times of thirteen, a round of fourteen, buffers of ten."""
-    put_show((1024, 1), [(720_000, 66_664, 10**6, 10**6)], [(60, 2**24, WIDEST, 0)] * 16)
+    yield showing((1024, 1), [(720_000, 66_664, 10**6, 10**6)], [(60, 2**24, WIDEST, 0)] * 16)
 
 def heavy():
     """3,056,065 turns: the load is one part in 512,000,000 under a hundred per cent, and a turn brings one block more to one of two sessions."""
-    put_show((512, 10), [layout(2500, 835_355), layout(2500, 835_123)], [(300, 1, WIDEST, 0), (313, 1, WIDEST, 1)])
+    yield showing((512, 10), [layout(2500, 835_355), layout(2500, 835_123)], [(300, 1, WIDEST, 0), (313, 1, WIDEST, 1)])
 
-def main():
-    for part in (stored, lengths, playing, refusals, counts, buffers, short_times, times, rounds, shorts, beyonds, loads, longest, heavy):
-        part()
-    sys.stdout.buffer.write(b'\x14\0' + bytes(19))    # cut short
+PARTS = stored, lengths, playing, refusals, counts, buffers, short_times, times, rounds, shorts, beyonds, loads, longest, heavy
 
-if __name__ == '__main__':
-    main()
+def lines():
+    for part in PARTS:
+        yield 'case report-' + part.__name__.replace('_', '-')
+        for data in part():
+            yield from ('report ' + hexed(data), 'explain ' + hexed(data))

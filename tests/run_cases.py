@@ -1,23 +1,13 @@
-#!/usr/bin/env python3
-"""Writes the scripts that the program `rehearsal` is run on: those in tests/data, then scripts made here, the same in every run.
-
-  tests/run_cases.py > crates/rehearsal/stdin
-
-What must come of them tests/run_answers.py says.
-"""
-import itertools, sys
-import script_cases
+"""Shows that are opened, refused or played: whole cycles, skips, clocks, limits. Cases for tests/rehearsal_cases.py."""
+import itertools
 from dice import Dice
 from limits import SESSIONS
+from made_files import BAD_LAYOUT, BAD_SESSION, PAST, Made, noted
 from made_shows import X, Z, alike, changed
-from run_answers import stored
-from run_damage import DAMAGE
 from run_rules import MICRO, PUT_MOST, SPAN_MOST
 from run_scripts import (
     DICE, FAR, THREE, ask, asks, at_limit, begin, drain, filled, four, held, light, load, playing, poke, pokes, put, show_of, some_call, three, tight)
-from run_spare import SPARE
-from show_answers import encode
-from show_cases import BAD_LAYOUT, BAD_SESSION, PAST, Made, noted
+from show_files import encode
 
 # ---- opening
 
@@ -292,16 +282,5 @@ def long_clocks():
             ask('pass', d)
             ask('back')
 
-PARTS = (accepted, refused_files, refused_shows, refused_for_all, kept, in_order, cycles, rounds, plays, skips, but_one, amid, orders, larger_counts, put_limit,
-         full_at_limit, up_to_limit, clocks, long_clocks, *DAMAGE, *SPARE)
-
-def main():
-    sys.stdout.buffer.write(stored('scripts.in'))
-    for part in PARTS:
-        part()
-    ask('end')
-    sys.stdout.flush()
-    sys.stdout.buffer.write('\n'.join(script_cases.lines()).encode('latin-1'))    # the last line is not ended
-
-if __name__ == '__main__':
-    main()
+RUNS = (accepted, refused_files, refused_shows, refused_for_all, kept, in_order, cycles, rounds, plays, skips, but_one, amid, orders, larger_counts, put_limit,
+        full_at_limit, up_to_limit, clocks, long_clocks)

@@ -1,35 +1,22 @@
 """The rules of a run, of docs/RULES.md, sections 9 and 10: the record, its test, the calls. For the other scripts here; it shares nothing with the proved
 code."""
 import copy, itertools
-from limits import LAYOUTS, SESSIONS, counts_ok, fault, within
+from limits import SESSIONS, Refused, counts_ok, fault, within
+from memory import Memory
 from sets import holds, smallest, times
-from show_answers import NONE, Refused
 
 PUT_MOST, SPAN_MOST, MICRO = 2**40, 10**9, 10**6
 COUNT, P, G, C = range(4)
 
-class Run:
+class Run(Memory):
     """A run record: a show in memory, and the run's own fields, which are zeros at first."""
-    def __init__(self, head, layouts, sessions):
-        self.head = list(head)    # A, N, layout count, session count
-        self.layouts = [list(row) for row in layouts]
-        self.sessions = [list(row) for row in sessions]
+    def __init__(self, memory):
+        super().__init__(memory.head, memory.layouts, memory.sessions)
         self.states = [[0] * 4 for _ in range(SESSIONS)]    # count, P, G, C
         self.order = [0] * SESSIONS
         self.place = self.left = 0
         self.under = None    # or the session
         self.started = False
-
-    def block(self):
-        return self.head[0]
-
-    def playing(self):
-        return self.head[3]
-
-    def show(self):
-        """Its drive, the layouts that are used, the sessions that are used."""
-        block, cylinder, laid, playing = self.head
-        return (block, cylinder), self.layouts[:laid], self.sessions[:playing]
 
     def counts(self):
         return [self.states[i][COUNT] for i in range(self.playing())]
@@ -58,17 +45,12 @@ class Run:
 def joined(values):
     return ','.join(str(v) for v in values) or '-'
 
-def in_memory(show, layout=NONE, session=NONE):
-    """A run with the show alone; these rows stand in the places that are not used."""
-    drive, layouts, sessions = show
-    return Run((*drive, len(layouts), len(sessions)), layouts + [layout] * (LAYOUTS - len(layouts)), sessions + [session] * (SESSIONS - len(sessions)))
-
-def opened(given):
-    """The first run of the show that stands in a run. It was read, so it is within the limits."""
-    run = copy.deepcopy(given)
-    counts = smallest(run.show())
+def opened(memory):
+    """The first run of a show in memory; or refused 2, 5, 6, 7, 8."""
+    counts = smallest(memory.tested())
     if counts is None:
         raise Refused(8, 0)
+    run = Run(memory)
     for i, count in enumerate(counts):
         run.states[i][COUNT] = count
         run.order[i] = i
@@ -204,4 +186,4 @@ def called(run, call, numbers):
             raise Refused(19, 0)
         return call(after, *numbers), after
     except Refused as no:
-        return 'refused %d %d' % no.args, run
+        return str(no), run

@@ -1,13 +1,13 @@
-"""The scripts that the program `rehearsal` is run on, and the run that they are on: for the scripts that make its cases. The answers of run_answers.py
-follow each line, so that the next one can go by the run."""
+"""Scripts that the program `rehearsal` is run on, and the run that they are on: for the scripts that make its cases. The answers of tests/scripts.py follow
+each line, so that the next one can go by the run."""
 import itertools
 from dice import Dice
 from limits import LAYOUTS, SESSIONS
 from made_shows import X, alike, buffered
-from run_answers import LISTED, Desk
 from run_rules import G, P, PUT_MOST, SPAN_MOST
+from scripts import LISTED, Desk
 from sets import needed, smallest
-from show_answers import encode, hexed
+from show_files import encode, hexed
 
 FAR = 2**64 - 1
 DICE = Dice(1991)

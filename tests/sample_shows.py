@@ -5,13 +5,15 @@
   tests/sample_shows.py --check     says whether the files there are what this writes
 """
 import pathlib, sys
+from given import end_check
 from made_shows import X, Z, alike, changed
-from show_answers import encode, end_check
+from show_files import encode
 
 FOLDER = pathlib.Path(__file__).parent.parent / 'shows'
 
 def ten(rate):
-    """Ten on Z, the tenth at this rate. 506,880 leaves one part in a thousand of the drive, 511,999 one byte a second; 527,360 is three parts in a thousand too much."""
+    """Ten on Z, the tenth at this rate. 506,880 leaves one part in a thousand of the drive, 511,999 one byte a second; 527,360 is three parts in a thousand too
+    much."""
     drive, layouts, sessions = alike(Z, 10)
     return drive, layouts, changed(sessions, 9, (rate, *sessions[9][1:]))
 
@@ -39,8 +41,9 @@ def evening():
 
 def files():
     return {'p3.show': encode(alike(X, 3), b''), 'p6.show': encode(alike(Z, 10), b''), 'p7.show': encode(ten(506_880), b''),
-            'over.show': encode(ten(527_360), b''), 'beyond.show': encode(ten(511_999), b''), 'buffer.show': encode(short(1), b''), 'buffers.show': encode(short(1, 2), b''),
-            'wall.show': encode(wall(), WALL_NOTE), 'empty.show': encode(alike(X, 0), b''), 'evening.script': evening()}
+            'over.show': encode(ten(527_360), b''), 'beyond.show': encode(ten(511_999), b''), 'buffer.show': encode(short(1), b''),
+            'buffers.show': encode(short(1, 2), b''), 'wall.show': encode(wall(), WALL_NOTE), 'empty.show': encode(alike(X, 0), b''),
+            'evening.script': evening()}
 
 def main():
     made = {FOLDER / name: data for name, data in files().items()}

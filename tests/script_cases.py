@@ -1,11 +1,13 @@
-"""Lines that are no lines of a script, and lines at the border of it: cases for tests/run_cases.py. A character is a byte."""
+"""Lines that are no lines of a script, and lines at the border of it: cases for tests/rehearsal_cases.py. A character is a byte."""
 import itertools
 from limits import LAYOUTS, SESSIONS
+from made_files import Made, noted
+from made_lines import case
 from made_shows import X, alike
-from run_answers import LINE_MOST
+from memory import in_memory
 from run_scripts import light
-from show_answers import encode
-from show_cases import Made, noted
+from script_words import LINE_MOST
+from show_files import encode
 
 PAIR = encode(alike(X, 2), b'').hex()
 OPENED = 'show ' + PAIR, 'open'
@@ -18,10 +20,12 @@ OF_SESSIONS = 'M', 'P', 'G', 'C', 'O', 's.R', 's.Y', 's.B', 's.lay'
 OF_LAYOUTS = 'l.far', 'l.one', 'l.blk', 'l.rot'
 PLACES = {**dict.fromkeys(OF_SESSIONS, SESSIONS), **dict.fromkeys(OF_LAYOUTS, LAYOUTS)}
 POKES = [*('poke %s 1' % field for field in SINGLE), *('poke %s 1 1' % field for field in PLACES)]
-RIGHT = ['case x', 'opts base', 'policy fixed', NOBODY[0], 'junk', 'open', *CALLS, *POKES, 'save', 'back', 'end']
-
-def case(name, *lines):
-    return ['case ' + name, *lines]
+NUMBERS = in_memory(alike(X, 0)).text()
+OF_MEMORY = 'decide', 'why', 'load', 'worst 0 1', 'try 1', 'write - 9'
+PLAYER = 'player 5 2 7 9 1 6 0 1 1'
+ON_THEIR_OWN = 'file -', 'report -', 'explain -', PLAYER
+QUESTIONS = *OF_MEMORY, *ON_THEIR_OWN
+RIGHT = ['case x', 'policy fixed', NOBODY[0], 'memory ' + NUMBERS, 'junk', 'open', *CALLS, *QUESTIONS, *POKES, 'save', 'back', 'end']
 
 def wrong(name, lines, *before):
     """A case for each line; what comes after it in the case must not be told."""
@@ -36,9 +40,13 @@ def right(name, lines, *before):
 # ---- words
 
 UNKNOWN = ('opens', 'ope', 'Open', 'OPEN', 'opem', 'rest', '=', '->', 'ok', 'error 1', '-', '0', 'x' * 300, '\0', '\xff', 'open\0',
-           'pass\0 1', 'pas 1', 'passs 1')
+           'pass\0 1', 'pas 1', 'passs 1', 'opts base', 'opts', 'opts fixed', 'decides', 'Why', 'loads', 'worse 0 1', 'tries 1', 'writes - 9', 'files -',
+           'File -', 'reports -', 'explains -', 'players 1', 'memories ' + NUMBERS, 'tried 1', 'verdict')
 SPACES = ('', ' ', '  ', ' choose', 'choose ', 'pass  1', 'pass 1 ', ' pass 1', 'choose\r', 'pass 1\r', '\r', 'choose\t', '\tchoose', '\t', 'pass\t1',
-          'pass 1\t', 'pass \t1', 'pass \r1', 'choose\v', 'pass\xa01', 'poke left  1', 'poke  left 1', 'poke P 0  1', 'take  0', 'take 0 ', 'opts  base', 'end ')
+          'pass 1\t', 'pass \t1', 'pass \r1', 'choose\v', 'pass\xa01', 'poke left  1', 'poke  left 1', 'poke P 0  1', 'take  0', 'take 0 ', 'policy  fixed',
+          'end ', 'decide ', ' decide', 'why\t', 'load\r', 'worst  0 1', 'worst 0  1', 'worst 0 1 ', 'worst 0\t1', 'try  1', 'try 1 ', 'try 1, 1', 'write -  9',
+          'write  9', 'write - 9\r', 'file  -', 'file - ', 'report\t-', 'explain  -', PLAYER + ' ', PLAYER + '\r', PLAYER.replace(' ', '  ', 1),
+          'player  2 7 9 1 6 0 1 1', 'memory  ' + NUMBERS, 'memory ' + NUMBERS + ' ')
 NAMES = ('0', 'case', 'end', '-', '->', '=', 'a\tb', '\t', '\r', '\0', '\xff', 'a\0b', '\xff\xfe\0\x80', '\xc3\xa9',
          '\xe2\x80\xa8', '\v\f\x1c\x85', '"\\\'', 'x' * 300)
 
@@ -53,9 +61,8 @@ def words():
         few = [fewer(line)] if ' ' in line else []
         yield from wrong('words-' + kind, [*few, line + ' 1'], *NOBODY, 'save')
     yield from wrong('poke-words', ['poke', 'poke 1', 'poke 1 1', 'poke 1 1 1'], *NOBODY)
-    yield from wrong('opts', ['opts ' + word for word in ('cr2', 'base+cr2', 'Base', 'bas', 'bases', '-', 'fixed')])
     yield from wrong('policy', ['policy ' + word for word in ('greedy', 'Fixed', 'fixe', 'fixeds', '-', 'base')])
-    yield from case('rules-anywhere', 'policy fixed', *OPENED, 'opts base', 'choose', 'opts base', 'opts base', 'finish 5', 'policy fixed', 'end')
+    yield from case('policy-anywhere', 'policy fixed', *OPENED, 'policy fixed', 'choose', 'policy fixed', 'finish 5', 'policy fixed', 'decide', 'end')
 
 def names():
     for name in NAMES:
@@ -109,6 +116,44 @@ def of_fields():
     yield from wrong('field', ['poke %s 0 1' % field for field in FIELDS], *NOBODY)
     yield from wrong('field-alone', ['poke %s 1' % field for field in ALONE], *NOBODY)
 
+# ---- the numbers of questions, and shows in memory
+
+def of_questions():
+    odd = itertools.cycle(NOT_NUMBERS)
+    words = ('%d' % LONG, '%d' % (10 * LONG + 1), '-1')
+    small = ('%d' % FULL, '%d' % (10 * FULL + 1), '-1')
+    yield from wrong('worst-of', ['worst %s 1' % word for word in (*words, next(odd), next(odd))], NOBODY[0])
+    yield from wrong('worst', ['worst 0 %s' % word for word in (*small, '%d' % LONG, next(odd), next(odd))], NOBODY[0])
+    ones = ','.join(['1'] * 15)
+    counts = (ones + ',1,1', ',', '1,', ',1', '1,,1', '1;1', '1,-', '-,1', '--', '-1', '1, ', *small, '1,%d' % FULL, ones + ',x', next(odd),
+              '1,' + next(odd))
+    yield from wrong('try', ['try ' + word for word in counts], NOBODY[0])
+    yield from wrong('room', ['write - ' + word for word in ('4097', '40960', '%d' % FULL, '%d' % (FULL + 1), *words, '-', next(odd), next(odd))], NOBODY[0])
+    yield from wrong('note', ['write %s 9' % word for word in (*NO_HEX, '00' * 4097)], NOBODY[0])
+    yield from wrong('refused-and-malformed', ['worst 0 x', 'worst %d 1' % LONG, 'try ' + ','.join(['1'] * 17), 'write 0 9', 'write - 4097', 'decide 1'], BAD)
+
+def of_players():
+    """Each of the nine too large, or none."""
+    odd, good = itertools.cycle(NOT_NUMBERS), PLAYER.split(' ')
+    for k, limit in enumerate((LONG, LONG, LONG, FULL, FULL, FULL, FULL, 2, LONG), 1):
+        yield from wrong('player-%d' % k, [' '.join(good[:k] + [str(word)] + good[k + 1:]) for word in (limit, 10 * limit + 1, '-1', next(odd))])
+    yield from wrong('players', ['player', 'player 5', PLAYER.replace(' ', ',', 2), PLAYER.replace(' ', '\t', 2)])
+
+def of_memory():
+    """99 numbers and 101, a mark for another, a number that is none or too large: at the first place, at the last, or in the midst."""
+    first, rest = NUMBERS.split(',', 1)
+    start, last = NUMBERS.rsplit(',', 1)
+    few = start, rest, NUMBERS.rsplit(';', 1)[0], NUMBERS.split(';', 1)[1], first, '', '-', ';' * 24, ','.join([','] * 25)
+    many = NUMBERS + ',0', '0,' + NUMBERS, NUMBERS + ';0,0,0,0', NUMBERS + ';', ';' + NUMBERS, NUMBERS + ','
+    marks = [NUMBERS.replace(mark, other) for mark, other in (',;', ';,')] + [start + '.' + last]
+    marks += [NUMBERS.replace(mark, other, 1) for mark, other in ((',', ';'), (';', ','), (';', ':'), (',', ',,'), (';', ';;'))]
+    fives = NUMBERS.replace(';', ',7;', 1).rsplit(',', 1)[0], rest.replace(';', ',7;', 1)    # a hundred numbers, but not in fours
+    yield from wrong('memory', ['memory ' + word for word in (*few, *many, *marks, *fives) if word])
+    wide = [str(word) for word in (FULL, FULL + 1, 10 * FULL, LONG, '-1', '+1', 'x', '1x', '0x1', '\xb2')]
+    yield from wrong('memory-first', ['memory %s,%s' % (word, rest) for word in wide])
+    yield from wrong('memory-last', ['memory %s,%s' % (start, word) for word in wide])
+    yield from wrong('memory-amid', ['memory ' + NUMBERS.replace(';0,0,0,0;', ';0,%s,0,0;' % word, 1) for word in wide[:2]])
+
 # ---- show files in hex
 
 NO_HEX = '0', PAIR[1:], PAIR + '0', '0g', '0x00', 'g0', '/0', ':0', '@0', 'G0', '`0', '0-', '-0', '--', '---', '00\t', '0\0', '\xff\xff'
@@ -116,7 +161,8 @@ HEX = PAIR.upper(), PAIR[:9] + PAIR[9:].upper(), '-', '00', '00' * 19, '00' * 20
 
 def shows():
     made = Made(8, 16, noted(1024))
-    yield from wrong('hex', ['show ' + word for word in NO_HEX])
+    for word in ('show', 'file', 'report', 'explain'):
+        yield from wrong('hex' if word == 'show' else 'hex-' + word, ['%s %s' % (word, text) for text in NO_HEX])
     for k, text in enumerate(HEX):
         yield from case('file-%d' % k, 'show ' + text, 'open', 'end')
     for data in (made.file(), made.file() + b'\0', noted(5000)):
@@ -130,12 +176,14 @@ FULL_DRIVE = encode(alike((20_000, 0, 10_000, 5000), 10), b'').hex()    # refuse
 BAD = 'show ' + PAIR[:-2] + '01'    # refused 3
 
 def places():
-    yield from wrong('before-show', [*RECORD, 'open', 'junk'], 'opts base')
-    yield from wrong('before-open', RECORD, NOBODY[0])
+    yield from wrong('before-show', [*RECORD, 'open', 'junk', *OF_MEMORY], 'policy fixed')
+    yield from wrong('before-open', RECORD, NOBODY[0], 'decide')
+    yield from wrong('before-open-of-memory', RECORD[:2], 'memory ' + NUMBERS, 'decide')
     yield from wrong('refused-file', RECORD, BAD, 'open')
     yield from wrong('refused-show', RECORD, 'show ' + FULL_DRIVE, 'open')
     yield from wrong('refused-later', RECORD[:-1], *NOBODY, 'save', BAD, 'junk', 'open')
-    yield from wrong('after-end', [*RECORD, *NOBODY, 'junk', 'opts base', 'policy fixed', 'end', 'x', ''], *NOBODY, 'save', 'end')
+    yield from wrong('after-end', [*RECORD, *NOBODY, 'junk', 'memory ' + NUMBERS, *QUESTIONS, 'policy fixed', 'end', 'x', ''], *NOBODY, 'save', 'end')
+    yield from wrong('before-show-again', OF_MEMORY[:2], *ON_THEIR_OWN)
     yield from case('unsaved', *OPENED, 'choose', 'back', 'slack', 'end')
     yield from case('saved', *OPENED, 'save')
     yield from case('saved-in-another', *OPENED, 'back', 'slack')
@@ -190,7 +238,7 @@ def junk():
 # ---- after an error
 
 NO_CASES = ('cases x', ' case x', 'Case x', 'CASE x', 'cas x', 'case\tx', 'case\rx', '\tcase x', 'case\0', '-case x', '=', 'end', '', ' ', *NOBODY, 'choose',
-            'opts base')
+            *QUESTIONS)
 BAD_CASES = 'case', 'case ', 'case a b', 'case  a', 'case a ', 'case a  b'
 
 def skips():
@@ -215,5 +263,6 @@ def last():
     yield from case('last', *OPENED, 'choose')
 
 def lines():
-    for part in (words, names, of_calls, of_pokes, of_indexes, of_fields, shows, places, again, junk, skips, long_lines, last):
+    for part in (words, names, of_calls, of_pokes, of_indexes, of_fields, of_questions, of_players, of_memory, shows, places, again, junk, skips, long_lines,
+                last):
         yield from part()

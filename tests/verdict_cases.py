@@ -1,21 +1,20 @@
-#!/usr/bin/env python3
-"""Writes the records that the program `verdicts` is run on: the shows in tests/data, then shows made here, the same in every run.
-
-  tests/verdict_cases.py > crates/verdicts/stdin
-
-What must come of them tests/verdict_answers.py says. The smallest sets that it works out serve here too, for counts and buffers that just do and just do not.
-"""
-import itertools, struct, sys
-import why_cases
+"""Shows in memory that are decided, and asked for the reason and the load, with counts that are tried: those in tests/data, then shows made here. Cases for
+tests/rehearsal_cases.py. The smallest sets serve here too, for counts and buffers that just do and just do not."""
+import itertools
+import reason_shows
 from dice import Dice
+from given import table
 from limits import LAYOUTS, SESSIONS, counts_ok, fault
+from made_files import BAD_LAYOUT, BAD_SESSION, FULL, PAST
+from made_lines import shown
 from made_shows import AMPLE, X, Z, alike, buffered, changed
+from memory import NONE, Memory, rows
+from run_rules import joined
+from script_words import file_of
 from sets import needed, smallest
-from show_answers import number, rows, table, unhexed
-from show_cases import BAD_LAYOUT, BAD_SESSION
+from show_files import encode, hexed, number
+from show_files import rows as rows_at
 
-PAST = 2**32 - 1
-NONE = (0, 0, 0, 0)
 DICE = Dice(2024)
 TURNS = itertools.count()
 
@@ -35,34 +34,36 @@ def filling(show):
     return [max(1, (x[2] - x[1]) // block - 1) for x in sessions]
 
 def given(show, sound, turn):
+    """Of a show outside its limits any counts; else others near those that do, and mostly something in the places that are not looked at."""
     if not sound:
         return [DICE.between(0, PAST) for _ in range(SESSIONS)]
     counts = smallest(show)
     tried = near(filling(show) if counts is None else counts, turn)
-    return tried + [DICE.between(0, PAST) if turn % 3 else 0 for _ in range(SESSIONS - len(tried))]
+    return tried + [DICE.between(0, PAST) for _ in range(SESSIONS - len(tried) if turn % 3 else 0)]
 
-# ---- records; a show is its drive, the layouts that are used, the sessions that are used
+# ---- a show and the questions about it
 
 def put(show, laid=None, playing=None, rest=NONE, counts=None):
-    """`laid` and `playing` stand for the counts that the show has, `rest` in the places that are not used."""
+    """`laid` and `playing` stand for the counts that the show has, `rest` in the places that are not used. A show that a file can hold is given by the file,
+    unless that is longer."""
     drive, layouts, sessions = show
     laid = len(layouts) if laid is None else laid
     playing = len(sessions) if playing is None else playing
-    fours = [(*drive, laid, playing)]
-    fours += layouts + [rest] * (LAYOUTS - len(layouts))
-    fours += sessions + [rest] * (SESSIONS - len(sessions))
     sound = counts_ok(laid, playing) and fault(*show) is None
     tried = given(show, sound, next(TURNS)) if counts is None else counts
-    sys.stdout.buffer.write(struct.pack('<116I', *itertools.chain(*fours), *tried))
+    ways = [shown(Memory((*drive, laid, playing), *rows(layouts, sessions, rest, rest)))]
+    if sound and rest == NONE:
+        ways.append('show ' + hexed(encode(show, b'')))
+    return min(ways, key=len), 'decide', 'try ' + joined(tried), 'why', 'load'
 
 def tight(show):
     """The show as it is; and, where it is accepted, with the buffers that are needed, and with one of them a byte short."""
-    put(show)
+    yield put(show)
     counts = smallest(show)
     if counts:
         sizes, place = needed(show, counts), DICE.between(0, len(counts) - 1)
-        put(buffered(show, sizes), rest=(PAST,) * 4)
-        put(buffered(show, changed(sizes, place, sizes[place] - 1)))
+        yield put(buffered(show, sizes), rest=FULL)
+        yield put(buffered(show, changed(sizes, place, sizes[place] - 1)))
 
 # ---- the shows that came from elsewhere
 
@@ -71,40 +72,40 @@ def stored():
     for _, text, expected in table('reads.txt'):
         if expected in ('refused 1 0', 'refused 3 0', 'refused 4 0'):
             continue
-        data = unhexed(text)
+        data = file_of(text)
         end = len(data) - 20
         laid, playing = number(data, end + 8, 2), number(data, end + 10, 2)
         first, second = end - 16 * (laid + playing), end - 16 * playing
         if first < 0:
             continue
         drive = number(data, end, 4), number(data, end + 4, 4)
-        put((drive, rows(data, first, min(laid, LAYOUTS)), rows(data, second, min(playing, SESSIONS))), laid, playing)
+        yield put((drive, rows_at(data, first, min(laid, LAYOUTS)), rows_at(data, second, min(playing, SESSIONS))), laid, playing)
 
 # ---- the worked numbers, and each side of them
 
 def worked():
-    put(alike(X, 3), counts=[1] * 3 + [0] * 13)
+    yield put(alike(X, 3), counts=[1] * 3)
     for size in (102_399, 102_400, 102_401, 102_402, 153_600, 153_601):
-        put(alike(X, 1, size), counts=[1] + [0] * 15)
-        put(alike(X, 1, size), counts=[2] + [0] * 15)
-    tight(alike(X, 3))
+        yield put(alike(X, 1, size), counts=[1])
+        yield put(alike(X, 1, size), counts=[2])
+    yield from tight(alike(X, 3))
     for longest in (27_999, 28_000, 28_001):
-        put(alike((longest, 2000, 10000, 5000), 2), counts=[1] * 2 + [0] * 14)
-        tight(alike((longest, 2000, 10000, 5000), 2))
+        yield put(alike((longest, 2000, 10000, 5000), 2), counts=[1] * 2)
+        yield from tight(alike((longest, 2000, 10000, 5000), 2))
     for size in (1_433_600, 1_433_601, 1_484_800, 1_484_801, AMPLE):
-        put(alike(Z, 9, size), counts=[27] * 9 + [0] * 7)
-        put(alike(Z, 9, size), counts=[28] * 9 + [0] * 7)
+        yield put(alike(Z, 9, size), counts=[27] * 9)
+        yield put(alike(Z, 9, size), counts=[28] * 9)
     for size in (1, 102_401, 1_484_801, 158_310_401, AMPLE, 2**30):
-        put(alike(Z, 10, size))
+        yield put(alike(Z, 10, size))
     for place, rate in itertools.product((0, 4, 9), (505_000, 506_880, 506_881, 511_999, 512_001)):
         drive, layouts, sessions = alike(Z, 10)
-        tight((drive, layouts, changed(sessions, place, (rate, 1, AMPLE, 0))))
+        yield from tight((drive, layouts, changed(sessions, place, (rate, 1, AMPLE, 0))))
 
-def empty():
+def nobody():
     for laid in (1, 8):
-        for rest in (NONE, (PAST,) * 4):
-            put(((51200, 10), [X] * laid, []), rest=rest)
-    put(((65536, 65536), [(10**6,) * 4] * 8, []), rest=(1, 1, 1, 0))
+        for rest in (NONE, FULL):
+            yield put(((51200, 10), [X] * laid, []), rest=rest)
+    yield put(((65536, 65536), [(10**6,) * 4] * 8, []), rest=(1, 1, 1, 0))
 
 # ---- limits
 
@@ -113,38 +114,38 @@ def offenders():
     drive, layouts, sessions = (4096, 32), [X] * 8, [(1000, 100, 1_000_000, 7)] * 16
     for i in range(LAYOUTS):
         bad = BAD_LAYOUT[i % 5]
-        put((drive, changed(layouts, i, bad), sessions))
-        put((drive, layouts[:i] + [bad] * (8 - i), changed(sessions, 0, BAD_SESSION[i % 6])))
+        yield put((drive, changed(layouts, i, bad), sessions))
+        yield put((drive, layouts[:i] + [bad] * (8 - i), changed(sessions, 0, BAD_SESSION[i % 6])))
     for i in range(SESSIONS):
         bad = BAD_SESSION[i % 6]
-        put((drive, layouts, changed(sessions, i, bad)))
-        put((drive, layouts, sessions[:i] + [bad] * (16 - i)))
+        yield put((drive, layouts, changed(sessions, i, bad)))
+        yield put((drive, layouts, sessions[:i] + [bad] * (16 - i)))
     for lies in (8, 9, 255, 65_536, PAST):
-        put((drive, layouts, changed(sessions, lies % 16, (1000, 100, 1_000_000, lies))))
+        yield put((drive, layouts, changed(sessions, lies % 16, (1000, 100, 1_000_000, lies))))
     for wrong in ((0, 32), (511, 32), (513, 32), (66_048, 32), (4096, 0), (4096, 65_537), (PAST, PAST)):
-        put((wrong, layouts, sessions))
+        yield put((wrong, layouts, sessions))
 
 def counted():
     """Counts at their limits and past them; the largest numbers stand where nothing is looked at."""
     drive, sessions = (4096, 32), [(1000, 100, 1_000_000, 0)] * 16
     for laid in (0, 1, 8, 9, 16, 256, 65_537, 2**31, PAST):
-        put((drive, [X] * min(laid, 8), sessions), laid, rest=(PAST,) * 4)
+        yield put((drive, [X] * min(laid, 8), sessions), laid, rest=FULL)
     for playing in (0, 1, 15, 16, 17, 32, 256, 65_552, 2**31, PAST):
-        put((drive, [X], sessions[:playing]), 1, playing, rest=(PAST,) * 4)
-    put((drive, [X] * 8, sessions), PAST, PAST)
+        yield put((drive, [X], sessions[:playing]), 1, playing, rest=FULL)
+    yield put((drive, [X] * 8, sessions), PAST, PAST)
 
 def faulty(faults):
     laid = 9 if 2 in faults else 2
     drive = (4096, 0 if 5 in faults else 32)
     layouts = [X, (5, 6, 5, 5) if 6 in faults else Z]
     sessions = [(1000, 100, 1 if 8 in faults else 1_000_000, 1), (1000, 100, 1_000_000, 2 if 7 in faults else 1)]
-    put((drive, layouts, sessions), laid)
+    yield put((drive, layouts, sessions), laid)
 
-def orders():
+def every_fault():
     """Every choice of faults: the first of them in the order 2, 5, 6, 7, 8."""
     for count in range(6):
         for faults in itertools.combinations((2, 5, 6, 7, 8), count):
-            faulty(faults)
+            yield from faulty(faults)
 
 # ---- at the border: the drive's whole load, sum of R x (N x time + track), against N x A x 1,000,000
 
@@ -180,7 +181,7 @@ LOADS = [(1000, 0), (1000, 1), (1000, -1)] + [(share, 0) for share in (999, 990,
 def border():
     dice = Dice(31)
     for k, (share, off) in enumerate(LOADS * 7):
-        tight(loaded(dice, 1 + 5 * k % 16, share, off))
+        yield from tight(loaded(dice, 1 + 5 * k % 16, share, off))
 
 # ---- large numbers
 
@@ -189,38 +190,37 @@ def extremes():
     worst, least = (10**6,) * 4, (0, 0, 1, 0)
     for block, cylinder, count in itertools.product((512, 65_536), (1, 65_536), (1, 2, 16)):
         drive = block, cylinder
-        put((drive, [worst], [(10**8, 1, 2**30, 0)] * count), counts=[PAST] * 16)
-        put((drive, [worst], [(1, 2**24, 2**30, 0)] * count), counts=[PAST] * 16)
-        put((drive, [worst, least], [(10**8, 1, 2**30, 1)] + [(1, 1, 2**30, 0)] * (count - 1)))
-        tight((drive, [worst], [(1, 2**24, 2**30, 0)] * count))
-        tight((drive, [least], [(block * 10**6 // (20 * count) if block == 512 else 10**8, 7, 2**30, 0)] * count))
+        yield put((drive, [worst], [(10**8, 1, 2**30, 0)] * count), counts=[PAST] * 16)
+        yield put((drive, [worst], [(1, 2**24, 2**30, 0)] * count), counts=[PAST] * 16)
+        yield put((drive, [worst, least], [(10**8, 1, 2**30, 1)] + [(1, 1, 2**30, 0)] * (count - 1)))
+        yield from tight((drive, [worst], [(1, 2**24, 2**30, 0)] * count))
+        yield from tight((drive, [least], [(block * 10**6 // (20 * count) if block == 512 else 10**8, 7, 2**30, 0)] * count))
     for longest in (0, 1, 10_000, 10**6):
-        put(((512, 1), [(longest, longest, 10**6, longest)], [(10**8, 1, 2**30, 0)]))
+        yield put(((512, 1), [(longest, longest, 10**6, longest)], [(10**8, 1, 2**30, 0)]))
 
 def largest():
     """The most that a buffer takes, 2,097,150 blocks of 512 bytes beside a cushion of 512: as the smallest count, and as a given one."""
     for longest, cushion in itertools.product((640_250, 640_251, 640_254, 640_255), (512, 513)):
         layouts = [(0, 0, 1, 0), (10**6, 0, 1, 10**6), (longest, 0, 1, 10**6)]
-        put(((512, 10), layouts, [(10**8, cushion, 2**30, 0)] + [(1, 1, 2**30, i) for i in (1, 1, 2)]))
+        yield put(((512, 10), layouts, [(10**8, cushion, 2**30, 0)] + [(1, 1, 2**30, i) for i in (1, 1, 2)]))
     for count, cushion in itertools.product((2_097_149, 2_097_150, 2_097_151, 2_097_152), (512, 513)):
-        put(((512, 10), [(0, 0, 1, 0)], [(1000, cushion, 2**30, 0)]), counts=[count] + [0] * 15)
+        yield put(((512, 10), [(0, 0, 1, 0)], [(1000, cushion, 2**30, 0)]), counts=[count])
 
 def heavy():
     """Sixteen sessions that take about a hundred thousand turns, one of them in vain: the load is an even hundred per cent."""
     for under, blocks in ((640, 2_097_151), (0, 150_000)):
         sessions = [(32_000_000 - under + 1000 * (2 * i - 15), 1, min(2**30, 512 * blocks), 0) for i in range(16)]
-        put(((512, 10), [(1, 0, 1, 0)], sessions))
+        yield put(((512, 10), [(1, 0, 1, 0)], sessions))
 
 # ---- each side of each reason
 
 def reasons():
-    for show in why_cases.shows():
-        put(show)
+    for show in reason_shows.shows():
+        yield put(show)
 
-def main():
-    for part in (worked, empty, stored, offenders, counted, orders, border, extremes, largest, heavy, reasons):
-        part()
-    sys.stdout.buffer.write(bytes(463))    # cut short
+PARTS = worked, nobody, stored, offenders, counted, every_fault, border, extremes, largest, heavy, reasons
 
-if __name__ == '__main__':
-    main()
+def lines():
+    for part in PARTS:
+        for k, asked in enumerate(part()):
+            yield from ('case %s-%d' % (part.__name__.replace('_', '-'), k), *asked)

@@ -1,4 +1,4 @@
-/* The archive asked about a file, and held to the rules. Arrays are lent in the midst of larger ones, which are filled first: what lies
+/* The archive asked about a file, and compared with the rules. Arrays are lent in the midst of larger ones, which are filled first: what lies
  * around them, and what a refusal leaves, must be as it was. */
 #include "asked.h"
 #include "chikchiro.h"

@@ -1,4 +1,4 @@
-/* The archive asked about a file, and held to the rules: every answer, and every element of every array that is lent. */
+/* The archive asked about a file, and compared with the rules: every answer, and every element of every array that is lent. */
 #ifndef ASKED_H
 #define ASKED_H
 

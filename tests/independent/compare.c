@@ -1,4 +1,4 @@
-/* compare SEED COUNT: so many made files, each asked of the archive and held to the rules. */
+/* compare SEED COUNT: so many made files, each asked of the archive and compared with the rules. */
 #include "asked.h"
 #include "made.h"
 

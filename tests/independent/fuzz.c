@@ -1,4 +1,4 @@
-/* fuzz SEED COUNT SECONDS: files changed at random, steered by coverage, each asked of the archive and held to the rules. A file that takes
+/* fuzz SEED COUNT SECONDS: files changed at random, steered by coverage, each asked of the archive and compared with the rules. A file that takes
  * the rules' code along a way that no file took before is kept, and changed further. It ends after so many files, or sooner when the time is up.
  *
  * The coverage is that of the C rules, which are compiled with -fsanitize-coverage=trace-pc: the archive has none to give. */

@@ -8,15 +8,6 @@
 #include <stdio.h>
 #include <string.h>
 
-static void print_text(const char *text, size_t length)
-{
-    for (size_t i = 0; i < length; i++)
-        if (text[i] == '\n')
-            fputs("\\n", stdout);
-        else
-            putchar(text[i]);
-}
-
 /* The text of a line's file; hands back whether the rules and the archive agree on it. */
 static bool answer(struct word name, const uint8_t *file, size_t length)
 {
@@ -39,7 +30,7 @@ int main(void)
     while (read_line(stdin, line, &length)) {
         struct word word[3];
         split((struct word){ line, length }, '\t', word, 3);
-        if (!hex(word[1], false, file, sizeof file, &bytes) || !answer(word[0], file, bytes)) {
+        if (!hex(word[1], file, sizeof file, &bytes) || !answer(word[0], file, bytes)) {
             printf("the archive differs, or no hex: %.*s\n", (int)word[0].length, word[0].at);
             return 1;
         }

@@ -4,8 +4,6 @@
 
 #include "rules.h"
 
-#include <stdbool.h>
-
 #define MILLION UINT64_C(1000000)
 #define PUT_MOST UINT64_C(1099511627776) /* the limit on P */
 
@@ -30,11 +28,11 @@ static inline struct refusal allow(void)
 /* Refusals 2, 5, 6 and 7, in this order. */
 struct refusal show_limits(const struct show *show);
 
-/* U(count) of a session, of a show within its limits; count at least 1. (count - 1) / N + 1 is count / N rounded up. */
+/* U(count) of a session, of a show within its limits. */
 static inline uint64_t worst_time(const struct show *show, uint32_t session, uint32_t count)
 {
     const struct layout *layout = &show->layout[show->session[session].layout];
-    uint64_t cylinders = (count - 1) / show->cylinder + 1;
+    uint64_t cylinders = count / show->cylinder + (count % show->cylinder != 0); /* rounded up */
     return layout->seek + (uint64_t)count * layout->block + cylinders * layout->track + 2 * (uint64_t)layout->rotation;
 }
 

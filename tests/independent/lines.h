@@ -1,4 +1,4 @@
-/* Lines, numbers, hex and shows as text, for the programs. */
+/* Lines, numbers, hex and shows as text, for the programs here. */
 #ifndef LINES_H
 #define LINES_H
 
@@ -66,17 +66,17 @@ static inline bool number(struct word word, uint64_t most, uint64_t *value)
     return word.length > 0;
 }
 
-static inline int hex_digit(char c, bool capitals)
+static inline int hex_digit(char c)
 {
     if (c >= '0' && c <= '9')
         return c - '0';
     if (c >= 'a' && c <= 'f')
         return c - 'a' + 10;
-    return capitals && c >= 'A' && c <= 'F' ? c - 'A' + 10 : -1;
+    return c >= 'A' && c <= 'F' ? c - 'A' + 10 : -1;
 }
 
-/* Two digits for each byte, at most `most` bytes; `-` for none. */
-static inline bool hex(struct word word, bool capitals, uint8_t *bytes, size_t most, size_t *length)
+/* Two digits of either case for each byte, at most `most` bytes; `-` for none. */
+static inline bool hex(struct word word, uint8_t *bytes, size_t most, size_t *length)
 {
     *length = 0;
     if (is(word, "-"))
@@ -84,14 +84,77 @@ static inline bool hex(struct word word, bool capitals, uint8_t *bytes, size_t m
     if (word.length == 0 || word.length % 2 != 0 || word.length / 2 > most)
         return false;
     for (size_t i = 0; i < word.length / 2; i++) {
-        int high = hex_digit(word.at[2 * i], capitals);
-        int low = hex_digit(word.at[2 * i + 1], capitals);
+        int high = hex_digit(word.at[2 * i]);
+        int low = hex_digit(word.at[2 * i + 1]);
         if (high < 0 || low < 0)
             return false;
         bytes[i] = (uint8_t)(high * 16 + low);
     }
     *length = word.length / 2;
     return true;
+}
+
+/* Numbers of 32 bits with a separator between them: how many, or 0 if some is none or there are more. */
+static inline size_t numbers(struct word word, char separator, uint32_t *value, size_t most)
+{
+    struct word part[SESSIONS];
+    size_t count = split(word, separator, part, most);
+    if (count > most)
+        return 0;
+    for (size_t i = 0; i < count; i++) {
+        uint64_t wide;
+        if (!number(part[i], UINT32_MAX, &wide))
+            return 0;
+        value[i] = (uint32_t)wide;
+    }
+    return count;
+}
+
+/* A show as it is printed below. */
+static inline bool show_of(struct word word, struct show *show)
+{
+    enum { FOURS = 1 + LAYOUTS + SESSIONS };
+    struct word part[FOURS];
+    uint32_t four[FOURS][4];
+    if (split(word, ';', part, FOURS) != FOURS)
+        return false;
+    for (size_t i = 0; i < FOURS; i++)
+        if (numbers(part[i], ',', four[i], 4) != 4)
+            return false;
+    show->block = four[0][0];
+    show->cylinder = four[0][1];
+    show->layouts = four[0][2];
+    show->sessions = four[0][3];
+    for (size_t i = 0; i < LAYOUTS; i++) {
+        const uint32_t *f = four[1 + i];
+        show->layout[i] = (struct layout){ f[0], f[1], f[2], f[3] };
+    }
+    for (size_t i = 0; i < SESSIONS; i++) {
+        const uint32_t *f = four[1 + LAYOUTS + i];
+        show->session[i] = (struct session){ f[0], f[1], f[2], f[3] };
+    }
+    return true;
+}
+
+static inline void print_hex(const uint8_t *bytes, size_t length)
+{
+    static const char digits[] = "0123456789abcdef";
+    if (length == 0)
+        putchar('-');
+    for (size_t i = 0; i < length; i++) {
+        putchar(digits[bytes[i] >> 4]);
+        putchar(digits[bytes[i] & 15]);
+    }
+}
+
+/* A newline is written as a backslash and an n. */
+static inline void print_text(const char *text, size_t length)
+{
+    for (size_t i = 0; i < length; i++)
+        if (text[i] == '\n')
+            fputs("\\n", stdout);
+        else
+            putchar(text[i]);
 }
 
 static inline void print_four(char before, uint32_t a, uint32_t b, uint32_t c, uint32_t d)

@@ -1,41 +1,7 @@
 /* A script on standard input; each of its lines with its answer on standard output. */
-#include "lines.h"
-#include "rules.h"
+#include "stage.h"
 
 #include <inttypes.h>
-
-enum { WORDS = 4 };
-
-struct line {
-    struct word whole;
-    struct word word[WORDS];
-    size_t words;
-};
-
-/* Where the script stands: outside of cases, inside one, or passing over what follows an error. */
-enum where { OUTSIDE, INSIDE, PASSING };
-
-/* What a case has so far. */
-struct stage {
-    enum where where;
-    bool has_show, has_run, has_saved;
-    struct refusal reading; /* of the show's file */
-    struct show show;
-    struct run run, saved;
-};
-
-/* Every line that is carried out is written again; its answer, if any, follows. */
-static void echo(const struct line *line)
-{
-    fwrite(line->whole.at, 1, line->whole.length, stdout);
-}
-
-static bool silent(const struct line *line)
-{
-    echo(line);
-    putchar('\n');
-    return true;
-}
 
 /* What stands in one of the five lists of the record. */
 static uint64_t cell(const struct run *run, char list, uint32_t place)
@@ -110,12 +76,6 @@ static bool do_case(struct stage *stage, const struct line *line)
     return silent(line);
 }
 
-static bool do_opts(struct stage *stage, const struct line *line)
-{
-    (void)stage;
-    return is(line->word[1], "base") && silent(line);
-}
-
 static bool do_policy(struct stage *stage, const struct line *line)
 {
     (void)stage;
@@ -126,12 +86,23 @@ static bool do_show(struct stage *stage, const struct line *line)
 {
     uint8_t file[LINE_MOST / 2];
     size_t length;
-    if (!hex(line->word[1], true, file, sizeof file, &length))
+    if (!hex(line->word[1], file, sizeof file, &length))
         return false;
     const uint8_t *note;
     size_t note_length;
     stage->has_show = true;
     stage->reading = show_read(file, length, &stage->show, &note, &note_length);
+    return silent(line);
+}
+
+static bool do_memory(struct stage *stage, const struct line *line)
+{
+    struct show show;
+    if (!show_of(line->word[1], &show))
+        return false;
+    stage->has_show = true;
+    stage->reading = (struct refusal){ 0, 0 };
+    stage->show = show;
     return silent(line);
 }
 
@@ -320,15 +291,20 @@ static bool do_end(struct stage *stage, const struct line *line)
     return silent(line);
 }
 
-/* `words` is how many words the line has, or 0 where that depends on them. */
-struct command { const char *name; size_t words; bool (*act)(struct stage *, const struct line *); };
-
 static const struct command commands[] = {
     { "choose", 1, do_choose }, { "finish", 2, do_finish }, { "take", 3, do_take }, { "pass", 2, do_pass },
     { "poke", 0, do_poke }, { "save", 1, do_save }, { "back", 1, do_back }, { "start", 1, do_start },
-    { "slack", 1, do_slack }, { "workahead", 2, do_workahead }, { "case", 2, do_case }, { "opts", 2, do_opts },
-    { "policy", 2, do_policy }, { "show", 2, do_show }, { "junk", 1, do_junk }, { "open", 1, do_open }, { "end", 1, do_end },
+    { "slack", 1, do_slack }, { "workahead", 2, do_workahead }, { "case", 2, do_case }, { "policy", 2, do_policy },
+    { "show", 2, do_show }, { "memory", 2, do_memory }, { "junk", 1, do_junk }, { "open", 1, do_open }, { "end", 1, do_end }, { NULL, 0, NULL },
 };
+
+/* The command of this name in one of the lists, or NULL. */
+static const struct command *find(const struct command *command, struct word name)
+{
+    while (command->name != NULL && !is(name, command->name))
+        command++;
+    return command->name == NULL ? NULL : command;
+}
 
 static bool begins_case(struct word line)
 {
@@ -347,10 +323,10 @@ static bool perform(struct stage *stage, struct word whole)
     for (size_t i = 0; i < line.words; i++)
         if (line.word[i].length == 0)
             return false;
-    for (const struct command *command = commands; command < commands + sizeof commands / sizeof commands[0]; command++)
-        if (is(line.word[0], command->name))
-            return (command->words == 0 || command->words == line.words) && command->act(stage, &line);
-    return false;
+    const struct command *command = find(commands, line.word[0]);
+    if (command == NULL)
+        command = find(questions, line.word[0]);
+    return command != NULL && (command->words == 0 || command->words == line.words) && command->act(stage, &line);
 }
 
 int main(void)

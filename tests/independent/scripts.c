@@ -1,5 +1,6 @@
 /* Scripts for the program of rehearse.c, by dice: scripts SEED COUNT. A run is kept beside the script, so that what a case
- * does makes sense: it reads until it is idle, takes what is there, and is damaged where that matters. */
+ * does makes sense: it reads until it is idle, takes what is there, and is damaged where that matters. Questions stand between
+ * the calls: they change nothing. */
 #include "inner.h"
 #include "lines.h"
 #include "made.h"
@@ -87,6 +88,16 @@ static void call_workahead(struct script *s, uint64_t session)
     s->calls++;
 }
 
+/* About the show in memory, which need not be that of the run. */
+static void question(struct script *s)
+{
+    static const char *const lines[] = {
+        "decide", "why", "load", "try 1,1,1", "try -", "try 2", "worst 0 1", "worst 1 100", "worst 15 4294967295", "write - 100", "write 6e6f 1428", "file -",
+        "report 00", "explain -", "player 9 3 0 1 1 9 0 1 6", "player 9 3 0 1 1 9 0 0 6",
+    };
+    puts(PICK_FROM(&s->dice, lines));
+}
+
 /* Numbers for the calls. */
 
 static uint64_t any_session(struct script *s)
@@ -125,6 +136,8 @@ static uint64_t any_bytes(struct script *s, uint64_t session)
 static void any_call(struct script *s)
 {
     uint64_t session = any_session(s);
+    if (chance(s, 30))
+        question(s);
     switch (below(s, 11)) {
     case 0: call_pass(s, any_time(s)); break;
     case 1: call_finish(s, any_time(s)); break;
@@ -487,6 +500,8 @@ static void print_file(struct script *s, const uint8_t *file, size_t length)
 
 static bool call_open(struct script *s)
 {
+    if (chance(s, 10))
+        question(s);
     puts("open");
     s->calls++;
     s->has_run = run_open(&s->show, &s->run).number == 0;
@@ -510,6 +525,8 @@ static bool open_file(struct script *s, const uint8_t *file, size_t length)
     print_file(s, file, length);
     if (show_read(file, length, &s->show, &note, &note_length).number != 0) {
         /* The show in memory is that of no file then, so nothing is to be opened here. */
+        if (chance(s, 4))
+            question(s);
         puts(chance(s, 4) ? "junk\nopen" : "open");
         s->calls++;
         s->has_run = false;
@@ -520,7 +537,17 @@ static bool open_file(struct script *s, const uint8_t *file, size_t length)
     return call_open(s);
 }
 
-/* A show of any kind: its file whole or damaged. */
+/* A show as it stands in memory, unused places too. */
+static bool open_memory(struct script *s, const struct show *show)
+{
+    printf("memory");
+    print_show(' ', show);
+    putchar('\n');
+    s->show = *show;
+    return call_open(s);
+}
+
+/* A show of any kind: in memory, or its file whole or damaged. */
 static bool open_any(struct script *s)
 {
     struct show show;
@@ -528,6 +555,8 @@ static bool open_any(struct script *s)
     if (chance(s, 2))
         return open_file(s, file, made_file(&s->dice, file));
     made_show(&s->dice, &show);
+    if (chance(s, 3))
+        return open_memory(s, &show);
     size_t note_length = chance(s, 3) ? made_note(&s->dice, false, note) : 0;
     size_t length = made_bytes(&show, note, note_length, file);
     return open_file(s, file, chance(s, 3) ? made_damage(&s->dice, file, length) : length);
@@ -540,6 +569,8 @@ static bool open_small(struct script *s, bool empty)
     made_small_show(&s->dice, &show);
     if (empty)
         show.sessions = 0;
+    if (chance(s, 5))
+        return open_memory(s, &show);
     return open_file(s, file, made_bytes(&show, NULL, 0, file));
 }
 
@@ -605,14 +636,23 @@ static const char *const bad_lines[] = {
     "poke started", "poke started 0 1", "poke M 0 4294967296", "poke O 16 0", "poke P 0 18446744073709551616", "poke Q 0 1",
     "poke l.far 8 0", "poke l.far 0 4294967296", "poke s.R 16 1", "poke s.R 1", "poke under -2", "poke under 4294967296",
     "poke under 0 1", "poke place 4294967296", "poke place -1", "poke sc 0 1", "poke p 0 1", "poke A 4294967296", "", " ", "show",
-    "show 0", "show 0g", "show -- ", "show --", "show 00 00", "opts", "opts other", "opts base base", "policy", "policy first",
-    "policy fixed now", "junk 1", "open 1", "save 1", "back 1", "end 1", "case", "case a b", "cases a", "CASE a", "choose\r", "end ",
+    "show 0", "show 0g", "show -- ", "show --", "show 00 00", "opts", "opts base", "policy", "policy first", "policy fixed now",
+    "memory", "memory 1,2,3,4", "memory -", "memory 0", "decide 1", "why 0", "load -", "worst", "worst 0", "worst 0 1 2",
+    "worst -1 1", "worst 0 4294967296", "worst 18446744073709551616 1", "try", "try 1 1", "try 1,", "try ,1", "try 1,,1",
+    "try 4294967296", "try -,1", "try 1;1", "try 1,1,1,1,1,1,1,1,1,1,1,1,1,1,1,1,1", "write", "write -", "write 9",
+    "write - 4097", "write 0 9", "write - -1", "write - 1 1", "file", "file 0", "file 0g", "file - -", "report", "report 0",
+    "report --", "explain", "explain 0x", "explain - 1", "player", "player 1 2 3 4 5 6 7 1", "player 1 2 3 4 5 6 7 1 9 9",
+    "player 1 2 3 4 5 6 7 2 9", "player 1 2 3 4 5 4294967296 7 1 9", "player 18446744073709551616 2 3 4 5 6 7 1 9",
+    "player 1 2 3 4 5 6 7 1 -", "junk 1", "open 1", "save 1", "back 1", "end 1", "case", "case a b", "cases a", "CASE a",
+    "choose\r", "end ",
 };
 
 /* Lines that come where they can do nothing: in a case that has not come so far yet, or after an end. */
 static const char *const early_lines[] = {
-    "junk", "open", "choose", "slack", "start", "pass 1", "finish 1", "take 0 0", "workahead 0", "poke A 512", "poke under -1", "save",
-    "back", "show -\nopen\nchoose", "show -\nopen\nsave", "show -\njunk\nopen\nback", "end\nchoose", "end\nend", "end\n",
+    "junk", "open", "choose", "slack", "start", "pass 1", "finish 1", "take 0 0", "workahead 0", "poke A 512", "poke under -1",
+    "save", "back", "decide", "why", "load", "worst 0 1", "try 1", "write - 9", "file -\ndecide", "end\ndecide", "end\nfile -",
+    "end\nplayer 1 1 1 1 1 1 1 1 1", "show -\ndecide\nchoose", "show -\nopen\nchoose", "show -\nopen\nsave",
+    "show -\njunk\nopen\nback", "end\nchoose", "end\nend", "end\n",
 };
 
 static void bad_line(struct script *s, uint64_t seed, uint64_t which)
@@ -637,9 +677,7 @@ static void print_case(struct script *s, uint64_t seed, uint64_t which)
     s->calls = 0;
     s->most = dice_pick(&s->dice, CALLS_LEAST, CALLS_MOST);
     printf("case c%" PRIu64 "-%" PRIu64 "\n", seed, which);
-    if (chance(s, 3))
-        puts("opts base");
-    if (chance(s, 3))
+    if (chance(s, 9))
         puts("policy fixed");
     open_some(s);
     while (more(s))

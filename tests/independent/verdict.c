@@ -17,6 +17,30 @@ bool counts_hold(const struct show *show, const uint32_t count[SESSIONS])
     return true;
 }
 
+struct refusal show_try(const struct show *show, const uint32_t count[SESSIONS], struct trial *trial)
+{
+    struct refusal refusal = show_limits(show);
+    if (refusal.number != 0)
+        return refusal;
+    *trial = (struct trial){ counts_hold(show, count), { 0 }, 0 };
+    for (uint32_t i = 0; i < show->sessions; i++) {
+        trial->time[i] = worst_time(show, i, count[i]); /* below 2^54 */
+        trial->round += trial->time[i];
+    }
+    return allow();
+}
+
+struct refusal show_worst(const struct show *show, uint64_t session, uint32_t n, uint64_t *time)
+{
+    struct refusal refusal = show_limits(show);
+    if (refusal.number != 0)
+        return refusal;
+    if (session >= show->sessions)
+        return refuse(NO_SESSION, 0);
+    *time = worst_time(show, (uint32_t)session, n);
+    return allow();
+}
+
 /* The first round time over which some session's smallest count no longer fits its buffer. A count is ahead over t if
  * M x A x 1,000,000 > R x t, so the largest that fits is ahead over every t below M x A x 1,000,000 / R rounded up. */
 static uint64_t round_end(const struct show *show, bool own_buffers)
@@ -107,15 +131,28 @@ struct refusal show_decide(const struct show *show, struct decision *decision)
     return smallest_set(show, round_end(show, true), decision) ? allow() : refuse(NO_SET, 0);
 }
 
-/* The drive's whole load, an even hundred per cent or more. One term is below 2^63, their sum may pass 2^64. */
-static bool overloaded(const struct show *show)
+/* What the sessions ask of the drive, to be compared with N x A x 1,000,000. One term is below 2^63, their sum may pass 2^64. */
+static unsigned __int128 asked(const struct show *show)
 {
-    unsigned __int128 load = 0;
+    unsigned __int128 sum = 0;
     for (uint32_t i = 0; i < show->sessions; i++) {
         const struct layout *layout = &show->layout[show->session[i].layout];
-        load += show->session[i].rate * ((uint64_t)layout->block * show->cylinder + layout->track);
+        sum += show->session[i].rate * ((uint64_t)layout->block * show->cylinder + layout->track);
     }
-    return load >= show->cylinder * (show->block * MILLION);
+    return sum;
+}
+
+static uint64_t whole(const struct show *show)
+{
+    return show->cylinder * (show->block * MILLION);
+}
+
+struct refusal show_load(const struct show *show, uint64_t *tenths)
+{
+    struct refusal refusal = show_limits(show);
+    if (refusal.number == 0)
+        *tenths = (uint64_t)(1000 * asked(show) / whole(show));
+    return refusal;
 }
 
 /* The smallest set with all buffers at their limit is the smallest set, so the show is accepted exactly if it fits. */
@@ -126,7 +163,7 @@ struct refusal show_reason(const struct show *show, struct reason *reason)
         return refusal;
     *reason = (struct reason){ KEEPS_UP, 0, 0 };
     struct decision decision;
-    if (overloaded(show)) {
+    if (asked(show) >= whole(show)) { /* an even hundred per cent or more */
         reason->why = OVERLOAD;
         return allow();
     }

@@ -1,8 +1,8 @@
 // The calls on a run, and what each answers.
+use crate::answers::put_told;
 use crate::asked::Asked;
 use crate::asked::Word;
-use crate::text::say;
-use crate::text::tell;
+use crate::output::said;
 use run::Moved;
 use run::Run;
 use scheduler::Choice;
@@ -11,6 +11,8 @@ use show::refusal::Check;
 use show::refusal::Told;
 use spare::Spare;
 use spare::Spared;
+use text::form::put_form;
+use text::put_word;
 
 pub(crate) enum Answer {
     Granted,
@@ -88,26 +90,32 @@ fn spare_of(spare: Spare) -> Answer {
     }
 }
 
+// The answer to a call, to the end of its line.
 pub(crate) fn answer_told(answer: Answer) -> bool {
+    let mut out = [0u8; 64];
+    let at = put_word(&mut out, 0, b" -> ");
+    let at = put_answer(&mut out, at, answer);
+    let at = put_word(&mut out, at, b"\n");
+    said(&out, at)
+}
+
+fn put_answer(out: &mut [u8], at: usize, answer: Answer) -> usize {
     match answer {
-        Answer::Granted => say(b" -> ok\n"),
-        Answer::Idle => say(b" -> idle\n"),
-        Answer::Read(session) => tell(b" -> read #\n", &[session as u64]),
-        Answer::Value(t) => value_told(t),
-        Answer::Refused(told) => tell(
-            b" -> refused # #\n",
-            &[told.number as u64, told.place as u64],
-        ),
+        Answer::Granted => put_word(out, at, b"ok"),
+        Answer::Idle => put_word(out, at, b"idle"),
+        Answer::Read(session) => put_form(out, at, b"read #", &[session as u64]),
+        Answer::Value(t) => put_value(out, at, t),
+        Answer::Refused(told) => put_told(out, at, told),
     }
 }
 
 // A time may be below zero.
-fn value_told(t: i64) -> bool {
+fn put_value(out: &mut [u8], at: usize, t: i64) -> usize {
     let size = magnitude(t);
     if t < 0 {
-        return tell(b" -> value -#\n", &[size]);
+        return put_form(out, at, b"value -#", &[size]);
     }
-    tell(b" -> value #\n", &[size])
+    put_form(out, at, b"value #", &[size])
 }
 
 fn magnitude(t: i64) -> u64 {

@@ -1,4 +1,5 @@
 // The desk that a script is rehearsed at: what there is so far, and what each line makes of it.
+use crate::answers::told_of;
 use crate::asked::Asked;
 use crate::asked::Word;
 use crate::asked::asked_of;
@@ -6,11 +7,13 @@ use crate::calls::Answer;
 use crate::calls::answer_told;
 use crate::calls::call;
 use crate::fields::poke;
+use crate::given::memory_of;
+use crate::output::said;
+use crate::output::say;
+use crate::questions::answer;
 use crate::record::record;
 use crate::shows::file_of;
 use crate::shows::junked;
-use crate::text::say;
-use crate::text::tell;
 use parse::find;
 use parse::part;
 use parse::same;
@@ -19,6 +22,7 @@ use show::Show;
 use show::refusal::Check;
 use show::refusal::Told;
 use showfile::Reading;
+use text::put_numbered;
 
 // A longer line is malformed.
 const LINE_MOST: usize = 65_535;
@@ -88,8 +92,11 @@ impl Desk {
         match word {
             Word::Malformed => false,
             Word::Case => true,
-            Word::Rules | Word::Show | Word::End => self.begun,
+            Word::Policy | Word::Show | Word::Memory | Word::End => self.begun,
+            Word::File | Word::Report | Word::Explain | Word::Player => self.begun,
             Word::Junk | Word::Open => self.shown,
+            Word::Decide | Word::Why | Word::Load | Word::Worst | Word::Try | Word::Write =>
+                self.shown,
             Word::Back => self.saved,
             _ => self.opened,
         }
@@ -132,18 +139,28 @@ fn judged(bytes: &[u8], asked: Asked, desk: Desk) -> Desk {
         return malformed(desk);
     }
     match word {
-        Word::Case | Word::Rules | Word::Show | Word::Junk | Word::Save | Word::Back | Word::End =>
-            noted(bytes, word, desk),
         Word::Poke => poked(bytes, asked, desk),
         Word::Open => opened(bytes, desk),
-        _ => called(bytes, asked, desk),
+        Word::Pass
+        | Word::Take
+        | Word::Choose
+        | Word::Finish
+        | Word::Workahead
+        | Word::Slack
+        | Word::Start => called(bytes, asked, desk),
+        Word::Decide | Word::Why | Word::Load | Word::Worst | Word::Try | Word::Write =>
+            asked_about(bytes, asked, desk),
+        Word::File | Word::Report | Word::Explain | Word::Player => asked_about(bytes, asked, desk),
+        _ => noted(bytes, word, desk),
     }
 }
 
 fn malformed(desk: Desk) -> Desk {
     let mut next = desk.cleared();
     next.failed = true;
-    next.lost = !tell(b"error #\n", &[desk.lines]);
+    let mut out = [0u8; 32];
+    let n = put_numbered(&mut out, 0, b"error ", desk.lines, b"\n");
+    next.lost = !said(&out, n);
     next
 }
 
@@ -169,6 +186,7 @@ fn after(bytes: &[u8], word: Word, desk: Desk) -> Desk {
         }
         Word::End => desk.cleared(),
         Word::Show => shown(file_of(part(bytes, b' ', 1)), desk),
+        Word::Memory => with_show(memory_of(part(bytes, b' ', 1)), desk),
         Word::Junk => {
             let show = junked(desk.show);
             next.show = show;
@@ -187,23 +205,17 @@ fn after(bytes: &[u8], word: Word, desk: Desk) -> Desk {
 
 fn shown(reading: Reading, desk: Desk) -> Desk {
     let check = reading.check;
-    let show = reading.show;
-    let refused = told_of(check);
-    let mut next = desk;
-    next.shown = true;
-    next.show = show;
-    next.refused = refused;
+    let mut next = with_show(reading.show, desk);
+    next.refused = told_of(check);
     next
 }
 
-fn told_of(check: Check) -> Told {
-    let Check::Refused(why) = check else {
-        return Told {
-            number: 0,
-            place: 0,
-        };
-    };
-    why.told()
+fn with_show(show: Show, desk: Desk) -> Desk {
+    let mut next = desk;
+    next.shown = true;
+    next.show = show;
+    next.refused = told_of(Check::Within);
+    next
 }
 
 fn poked(bytes: &[u8], asked: Asked, desk: Desk) -> Desk {
@@ -214,6 +226,16 @@ fn poked(bytes: &[u8], asked: Asked, desk: Desk) -> Desk {
     }
     let mut next = desk.with_run(poked.run);
     next.lost = !again(bytes);
+    next
+}
+
+// ---- questions
+
+fn asked_about(bytes: &[u8], asked: Asked, desk: Desk) -> Desk {
+    let refused = desk.refused;
+    let told = say(bytes) && answer(bytes, asked, desk.show, refused);
+    let mut next = desk;
+    next.lost = !told;
     next
 }
 

@@ -1,8 +1,6 @@
 // The fields of a run record, by the names that a script has for them, and one of them overwritten.
 ghost use Prim.Native.Nat.{_<_};
-use parse::part;
-use parse::parts;
-use parse::same;
+use parse::place_in;
 use run::Run;
 use run::State;
 use run::Underway;
@@ -34,19 +32,6 @@ pub(crate) enum Field {
     Track,
     Time,
     Rotation,
-}
-
-// Where a word stands among names that have a space between; their number where it does not.
-pub(crate) fn place_in(names: &[u8], word: &[u8]) -> usize {
-    let n = parts(names, b' ');
-    let mut k = 0;
-    while k < n {
-        if same(part(names, b' ', k), word) {
-            return k;
-        }
-        k += 1;
-    }
-    n
 }
 
 // A field that there is once.

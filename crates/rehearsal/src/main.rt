@@ -1,20 +1,25 @@
 // Drives a run by a script: reads it from standard input and writes each line again, with what the call on it answers and the whole run
 // record after it (docs/SCRIPTS.md). A line that is none gets `error` and its number, and the script goes on with the next case.
 // A failed read or write is told on standard error.
+mod answers;
 mod asked;
 mod calls;
 mod desk;
 mod fields;
+mod files;
+mod given;
+mod output;
+mod questions;
 mod record;
 mod shows;
-mod text;
+mod texts;
 
 ghost use Prim.Native.Nat.{_+_, _≤_};
 ghost use lib.ListN.{length};
 use crate::desk::Desk;
 use crate::desk::answers;
 use crate::desk::line;
-use crate::text::complain;
+use crate::output::complain;
 use libc::STDIN_FILENO;
 
 // The bytes at the start of the room that are no whole line yet, whether more may come, and the desk.

@@ -1,37 +1,59 @@
 // The line that tells the whole run record.
 ghost use Prim.Native.Nat.{_<_, _≤_};
-use crate::text::say;
-use crate::text::tell;
+use crate::answers::at_most;
+use crate::answers::put_first;
+use crate::answers::put_unless;
+use crate::output::said;
 use parse::part;
 use run::Run;
 use run::Underway;
+use text::form::put_form;
+use text::put_numbered;
+use text::put_word;
 
 const PLACES: usize = 16;
 
-// The five lists of a run: counts, P, G, C, order.
-const LISTS: usize = 5;
-
-const CELLS: usize = LISTS * PLACES;
+// The five lists of a run, one after the other: counts, P, G, C, order.
+const CELLS: usize = 5 * PLACES;
 
 pub(crate) fn record(run: Run) -> bool {
-    cycle(run) && used(run) && unused(run) && say(b"\n")
+    let mut out = [0u8; 4096];
+    let values = values_of(run);
+    let at = put_cycle(&mut out, run);
+    let at = put_places(&mut out, at, run.show.playing, &values);
+    said(&out, at)
 }
 
-fn cycle(run: Run) -> bool {
-    let form = b"= started=# place=# left=# under=";
+fn put_places(out: &mut [u8], at: usize, playing: usize, values: &[u64]) -> usize {
+    let used = at_most(playing, PLACES);
+    let at = put_used(out, at, used, values);
+    let at = put_unused(out, at, used, values);
+    put_word(out, at, b"\n")
+}
+
+fn put_cycle(out: &mut [u8], run: Run) -> usize {
     let underway = run.underway;
-    tell(
+    let form = b"= started=# place=# left=# under=";
+    let at = put_form(
+        out,
+        0,
         form,
         &[run.started as u64, run.place as u64, run.left as u64],
-    )
-        && under(underway)
+    );
+    let Underway::Read(session) = underway else {
+        return put_word(out, at, b"-");
+    };
+    put_numbered(out, at, b"", session as u64, b"")
 }
 
-fn under(underway: Underway) -> bool {
-    let Underway::Read(session) = underway else {
-        return say(b"-");
-    };
-    tell(b"#", &[session as u64])
+fn values_of(run: Run) -> [u64; CELLS] {
+    let mut values = [0u64; CELLS];
+    let mut k = 0;
+    while k < CELLS {
+        values[k] = value_of(run, k / PLACES, k % PLACES);
+        k += 1;
+    }
+    values
 }
 
 // The number at place i of a list.
@@ -50,110 +72,48 @@ fn value_of(run: Run, list: usize, i: usize) -> u64
     }
 }
 
-// How many places are used, of those that there are.
-fn places_used(run: Run) -> usize
-    ensures { λ r. ⌜ r ≤ 16 ⌝ }
-{
-    if PLACES < run.show.playing {
-        return PLACES;
-    }
-    run.show.playing
-}
-
-// ---- the used places, list by list
-
-fn used(run: Run) -> bool {
+// The used places, list by list.
+fn put_used(out: &mut [u8], at: usize, used: usize, values: &[u64]) -> usize {
+    let mut next = at;
     let mut list = 0;
-    while list < LISTS {
-        if !named(run, list) {
-            return false;
-        }
+    while list < 5 {
+        next = put_named(out, next, list, used, values);
         list += 1;
     }
-    true
+    next
 }
 
-fn named(run: Run, list: usize) -> bool {
-    say(part(b" M=; P=; G=; C=; O=", b';', list)) && listed(run, list)
-}
-
-fn listed(run: Run, list: usize) -> bool {
-    let values = values_of(run, list);
-    first_of(
-        b"#,#,#,#,#,#,#,#,#,#,#,#,#,#,#,#",
-        places_used(run),
-        &values,
-    )
-}
-
-// The form is for sixteen: the first n of them, with a comma between two.
-fn first_of(form: &[u8], n: usize, values: &[u64]) -> bool
-    requires { ⌜ n ≤ 16 ⌝ }
+fn put_named(out: &mut [u8], at: usize, list: usize, used: usize, values: &[u64]) -> usize
+    requires { ⌜ list < 5 ⌝ }
 {
-    let end = 2 * n;
-    if form.len() < end {
-        return tell(form, values);
+    let at = put_word(out, at, part(b" M=; P=; G=; C=; O=", b';', list));
+    let from = PLACES * list;
+    if values.len() < from {
+        return at;
     }
-    if end == 0 {
-        return say(b"-");
-    }
-    let end = end - 1;
-    tell(&form[0..end], values)
+    put_first(out, at, used, &values[from..])
 }
 
-fn values_of(run: Run, list: usize) -> [u64; 16] {
-    let mut values = [0u64; PLACES];
-    let mut i = 0;
-    while i < PLACES {
-        values[i] = value_of(run, list, i);
-        i += 1;
-    }
-    values
-}
-
-// ---- the unused places that are not zero
-
-// Whether such a place was found, and whether all was written.
-struct Row {
-    found: bool,
-    written: bool,
-}
-
-fn unused(run: Run) -> bool {
-    let mut row = Row {
-        found: false,
-        written: say(b" X="),
-    };
+// The unused places that are not zero.
+fn put_unused(out: &mut [u8], at: usize, used: usize, values: &[u64]) -> usize {
+    let first = put_word(out, at, b" X=");
+    let mut next = first;
     let mut k = 0;
-    while k < CELLS {
-        row = unused_at(row, run, k / PLACES, k % PLACES);
+    while k < values.len() {
+        next = put_cell(out, next, used, next == first, k, values[k]);
         k += 1;
     }
-    if row.found {
-        return row.written;
-    }
-    row.written && say(b"-")
+    put_unless(out, next, next != first, b"-")
 }
 
-fn unused_at(row: Row, run: Run, list: usize, i: usize) -> Row
-    requires { ⌜ i < 16 ⌝ }
-{
-    let value = value_of(run, list, i);
-    if i < places_used(run) || value == 0 {
-        return row;
+fn put_cell(out: &mut [u8], at: usize, used: usize, first: bool, k: usize, value: u64) -> usize {
+    if k % PLACES < used {
+        return at;
     }
-    let written = comma(row.found)
-        && say(part(b"M P G C O", b' ', list))
-        && tell(b"#:#", &[i as u64, value]);
-    Row {
-        found: true,
-        written: row.written && written,
+    if value == 0 {
+        return at;
     }
-}
-
-fn comma(more: bool) -> bool {
-    if more {
-        return say(b",");
-    }
-    true
+    let at = put_unless(out, at, first, b",");
+    let at = put_word(out, at, part(b"M P G C O", b' ', k / PLACES));
+    put_form(out, at, b"#:#", &[(k % PLACES) as u64, value])
 }
