@@ -1,5 +1,5 @@
 -- A show written and read again is the same show, and a file read and written again the same bytes: docs/RULES.md, section 6.
--- proofs/Trips.antt proves both. The calls `reread` and `copy` of the crate `trips` say the same of every show and every file.
+-- proofs/Trips.antt proves both. The calls `reread` and `copy` of the crate `showfile_write` say the same of every show and every file.
 use Prim.Native.Nat.{ℕ, _≤_}
 use mathlib.Core.Path.{_≡_}
 use mathlib.Core.List.{List}
