@@ -9,6 +9,8 @@ use parse::same;
 use show::Show;
 use show::refusal::Check;
 use show::refusal::Refusal;
+use show::refusal::Told;
+use showfile::Written;
 use showfile_write::copy;
 use showfile_write::reread;
 use showfile_write::write;
@@ -67,12 +69,16 @@ fn put_read(out: &mut [u8], at: usize, file: &[u8], buffer: &mut [u8]) -> usize 
     if let Check::Refused(why) = check {
         return put_unread(out, at, why, file, buffer);
     }
+    let at = put_contents(out, at, show, showfile::note(file));
+    let at = put_copy(out, at, file, buffer);
+    put_short(out, at, file, buffer)
+}
+
+fn put_contents(out: &mut [u8], at: usize, show: Show, note: &[u8]) -> usize {
     let at = put_word(out, at, b"read ");
     let at = put_show(out, at, show);
     let at = put_word(out, at, b" ");
-    let at = put_hex(out, at, showfile::note(file));
-    let at = put_copy(out, at, file, buffer);
-    put_short(out, at, file, buffer)
+    put_hex(out, at, note)
 }
 
 // A refused file has no note and is not copied either: of these nothing is put, unless they are wrong.
@@ -80,8 +86,7 @@ fn put_unread(out: &mut [u8], at: usize, why: Refusal, file: &[u8], buffer: &mut
     let at = put_refusal(out, at, why);
     let note = showfile::note(file);
     let at = put_unless(out, at, note.len() == 0, b" note");
-    fill(buffer);
-    let wrote = copy(file, buffer);
+    let wrote = copied(file, buffer);
     let second = wrote.check;
     let at = put_unlike(out, at, why, second);
     put_unless(out, at, filled(buffer, 0), b" changed")
@@ -89,13 +94,7 @@ fn put_unread(out: &mut [u8], at: usize, why: Refusal, file: &[u8], buffer: &mut
 
 // The file written again, into a buffer of its length.
 fn put_copy(out: &mut [u8], at: usize, file: &[u8], buffer: &mut [u8]) -> usize {
-    fill(buffer);
-    let wrote = copy(file, buffer);
-    let check = wrote.check;
-    if let Check::Refused(why) = check {
-        let at = put_word(out, at, b" copy ");
-        return put_refusal(out, at, why);
-    }
+    let wrote = copied(file, buffer);
     let at = put_form(out, at, b" copy #", &[wrote.len as u64]);
     if same(buffer, file) {
         return put_word(out, at, b" same");
@@ -103,19 +102,14 @@ fn put_copy(out: &mut [u8], at: usize, file: &[u8], buffer: &mut [u8]) -> usize 
     put_word(out, at, b" differs")
 }
 
+fn copied(file: &[u8], buffer: &mut [u8]) -> Written {
+    fill(buffer);
+    copy(file, buffer)
+}
+
 // And into one that is a byte shorter: this must be refused, and change nothing.
 fn put_short(out: &mut [u8], at: usize, file: &[u8], buffer: &mut [u8]) -> usize {
-    if buffer.len() == 0 {
-        return at;
-    }
-    fill(buffer);
-    let n = buffer.len() - 1;
-    let wrote = copy(file, &mut buffer[0..n]);
-    let check = wrote.check;
-    let Check::Refused(why) = check else {
-        return put_word(out, at, b" short granted");
-    };
-    let told = why.told();
+    let told = copied_short(file, buffer);
     let at = put_form(
         out,
         at,
@@ -123,6 +117,17 @@ fn put_short(out: &mut [u8], at: usize, file: &[u8], buffer: &mut [u8]) -> usize
         &[told.number as u64, told.place as u64],
     );
     put_unless(out, at, filled(buffer, 0), b" changed")
+}
+
+fn copied_short(file: &[u8], buffer: &mut [u8]) -> Told {
+    fill(buffer);
+    if buffer.len() == 0 {
+        return told_of(Check::Within);
+    }
+    let n = buffer.len() - 1;
+    let wrote = copy(file, &mut buffer[0..n]);
+    let check = wrote.check;
+    told_of(check)
 }
 
 // ---- a show in memory
@@ -178,16 +183,12 @@ fn put_unwritten(
     put_unlike(out, at, why, second)
 }
 
-// The show written into a fresh buffer and read again.
+// The show written into a fresh buffer and read again; zeros where that is refused.
 fn put_reread(out: &mut [u8], at: usize, show: Show, note: &[u8], buffer: &mut [u8]) -> usize {
     fill(buffer);
     let got = reread(show, note, buffer);
-    let check = got.check;
     let again = got.show;
     let at = put_word(out, at, b" reread ");
-    if let Check::Refused(why) = check {
-        return put_refusal(out, at, why);
-    }
     let at = put_show(out, at, again);
     put_form(out, at, b" #", &[got.note as u64])
 }

@@ -18,6 +18,7 @@ use parse::part;
 use reason::Loaded;
 use reason::Reason;
 use show::Show;
+use show::refusal::Refusal;
 use show::refusal::Told;
 use text::form::put_form;
 use text::put_numbered;
@@ -82,23 +83,41 @@ fn put_about(
 fn put_decision(out: &mut [u8], at: usize, show: Show) -> usize {
     let d = verdict::decide(show);
     let verdict = d.verdict;
-    let times = d.times;
     let counts = d.counts;
-    let counts = wide(counts);
+    let times = d.times;
     match verdict {
-        Verdict::Accepted => {
-            let at = put_numbered(out, at, b"accepted ", d.round, b" ");
-            let at = put_list(out, at, show.playing, counts);
-            let at = put_word(out, at, b" ");
-            put_list(out, at, show.playing, times)
-        }
-        Verdict::Refused(why) => {
-            let at = put_refusal(out, at, why);
-            let at = put_unless(out, at, d.round == 0, b" beside");
-            let at = put_zeros(out, at, counts);
-            put_zeros(out, at, times)
-        }
+        Verdict::Accepted => put_yes(out, at, show.playing, d.round, counts, times),
+        Verdict::Refused(why) => put_no(out, at, why, d.round, counts, times),
     }
+}
+
+fn put_yes(
+    out: &mut [u8],
+    at: usize,
+    n: usize,
+    round: u64,
+    counts: [u32; 16],
+    times: [u64; 16],
+) -> usize {
+    let at = put_numbered(out, at, b"accepted ", round, b" ");
+    let at = put_list(out, at, n, wide(counts));
+    let at = put_word(out, at, b" ");
+    put_list(out, at, n, times)
+}
+
+// Refused, all else is zero.
+fn put_no(
+    out: &mut [u8],
+    at: usize,
+    why: Refusal,
+    round: u64,
+    counts: [u32; 16],
+    times: [u64; 16],
+) -> usize {
+    let at = put_refusal(out, at, why);
+    let at = put_unless(out, at, round == 0, b" beside");
+    let at = put_zeros(out, at, wide(counts));
+    put_zeros(out, at, times)
 }
 
 fn put_trial(out: &mut [u8], at: usize, show: Show, counts: &[u8]) -> usize {
@@ -108,20 +127,22 @@ fn put_trial(out: &mut [u8], at: usize, show: Show, counts: &[u8]) -> usize {
     let answer = t.answer;
     let times = t.times;
     match answer {
-        Answer::Holds => {
-            let at = put_numbered(out, at, b"holds ", t.round, b" ");
-            put_list(out, at, show.playing, times)
-        }
-        Answer::Fails => {
-            let at = put_numbered(out, at, b"fails ", t.round, b" ");
-            put_list(out, at, show.playing, times)
-        }
-        Answer::Refused(why) => {
-            let at = put_refusal(out, at, why);
-            let at = put_unless(out, at, t.round == 0, b" beside");
-            put_zeros(out, at, times)
-        }
+        Answer::Holds => put_timed(out, at, b"holds ", t.round, show.playing, times),
+        Answer::Fails => put_timed(out, at, b"fails ", t.round, show.playing, times),
+        Answer::Refused(why) => put_no(out, at, why, t.round, [0; 16], times),
     }
+}
+
+fn put_timed(
+    out: &mut [u8],
+    at: usize,
+    word: &[u8],
+    round: u64,
+    n: usize,
+    times: [u64; 16],
+) -> usize {
+    let at = put_numbered(out, at, word, round, b" ");
+    put_list(out, at, n, times)
 }
 
 fn put_reason(out: &mut [u8], at: usize, show: Show) -> usize {

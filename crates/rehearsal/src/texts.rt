@@ -108,17 +108,20 @@ fn put_lines(out: &mut [u8], at: usize, text: &[u8]) -> usize {
 
 // A buffer that is a byte too short is 16, and as it was. It comes first, so that a word for what is wrong stands before the text.
 fn put_too_short(out: &mut [u8], at: usize, call: Call, file: &[u8], buffer: &mut [u8]) -> usize {
+    let at = put_unless(out, at, too_short(call, file, buffer), b"granted ");
+    put_unless(out, at, filled(buffer, 0), b"changed ")
+}
+
+fn too_short(call: Call, file: &[u8], buffer: &mut [u8]) -> bool {
+    fill(buffer);
     let n = least(call) - 1;
     if buffer.len() < n {
-        return at;
+        return false;
     }
-    fill(buffer);
     let told = ask(call, file, &mut buffer[0..n]);
     let check = told.check;
     let refused = told_of(check);
-    let at = put_unless(out, at, refused.number == 16, b"granted ");
-    let at = put_unless(out, at, told.len == 0, b"granted ");
-    put_unless(out, at, filled(buffer, 0), b"changed ")
+    told.len == 0 && refused.number == 16
 }
 
 // In a buffer of the least length the same is written, and nothing past it.

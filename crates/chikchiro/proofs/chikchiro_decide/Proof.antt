@@ -15,41 +15,22 @@ returns-2 c = short (λ h. let n = h .times in let l = c .if2 .taken in omega (a
 returns-3 : tie.Need-returns-3
 returns-3 c = short (λ h. let n = h .round in let l = c .if3 .taken in omega (arith, n, l))
 
-decided-requires : tie.Need-decided-requires
-decided-requires c κs = search needs
-
-enum-known-verdict : tie.Need-enum-known-verdict
-enum-known-verdict c = search needs
-
 code-requires : tie.Need-code-requires
 code-requires c κs = decision-small _ (c .before .before .before .decided .result) (c .before .before .before .decided .ensures) (c .before .verdict .given .1)
 
 returns-4 : tie.Need-returns-4
-returns-4 c = decided-no _ (slices (c .before .before .before .before .before .before .before .before .before .before .before .before .args .counts .now) (c .before .before .before .before .before .before .before .before .before .before .before .before .args .times .now) (c .before .before .before .before .before .before .before .before .before .before .before .before .args .round .now)) (c .before .before .before .before .decided .result) (record { counts = c .before .before .before .before .before .before .before .if1 .left; times = c .before .before .before .before .before .before .if2 .left; round = c .before .before .before .before .before .if3 .left }) (c .before .before .before .before .decided .ensures) (c .before .before .verdict .given .1) (c .code .ensures)
-
-enum-told : tie.Need-enum-told
-enum-told c = search needs
-
-put-counts-requires : tie.Need-put-counts-requires
-put-counts-requires c κs = search needs
-
-put-times-requires : tie.Need-put-times-requires
-put-times-requires c κs = search needs
-
-slice-write-round : tie.Need-slice-write-round
-slice-write-round c = search needs
-
-same-length : tie.Need-same-length
-same-length c = search needs
-
-same-length-2 : tie.Need-same-length-2
-same-length-2 c = search needs
-
-same-length-3 : tie.Need-same-length-3
-same-length-3 c = search needs
+returns-4 c =
+    let d = c .before .before .before .before in
+    let s = d .before .before .before .before .before .before .before .before in
+    decided-no _ (slices (s .args .counts .now) (s .args .times .now) (s .args .round .now)) (d .decided .result) (record { counts = d .before .before .before .if1 .left; times = d .before .before .if2 .left; round = d .before .if3 .left }) (d .decided .ensures) (c .before .before .verdict .given .1) (c .code .ensures)
 
 returns-5 : tie.Need-returns-5
-returns-5 c = decided-yes _ (slices (c .before .before .before .before .before .before .before .before .before .before .before .before .before .before .before .before .before .before .before .before .args .counts .now) (c .before .before .before .before .before .before .before .before .before .before .before .before .before .before .before .before .before .before .before .before .args .times .now) (c .before .before .before .before .before .before .before .before .before .before .before .before .before .before .before .before .before .before .before .before .args .round .now)) (c .before .before .before .before .before .before .before .before .before .before .before .before .decided .result) (record { counts = c .before .before .before .before .before .before .before .before .before .before .before .before .before .before .before .if1 .left; times = c .before .before .before .before .before .before .before .before .before .before .before .before .before .before .if2 .left; round = c .before .before .before .before .before .before .before .before .before .before .before .before .before .if3 .left }) (c .before .before .before .before .before .before .before .before .before .before .before .before .decided .ensures) (c .before .before .before .before .before .before .before .before .before .before .enum-told .given .1) (c .before .before .before .before .before .before .put-counts .ensures) (c .before .before .put-times .ensures) (one-over _ 0 _ (c .before .before .before .before .before .before .before .before .before .before .before .before .before .if3 .left))
+returns-5 c =
+    let d = c .before .before .before .before .before .before in
+    let s = d .before .before .before .before in
+    let w = s .before .before .before .before in
+    let v = w .before .before .before .before .before .before in
+    decided-yes _ (slices (v .args .counts .now) (v .args .times .now) (v .args .round .now)) (s .before .before .decided .result) (record { counts = w .before .if1 .left; times = w .if2 .left; round = s .before .before .before .if3 .left }) (s .before .before .decided .ensures) (s .enum-told .given .1) (d .put-counts .ensures) (c .before .before .put-times .ensures) (one-over _ 0 _ (s .before .before .before .if3 .left))
 
 pub chikchiro-decide-spec : {M : Type 1} → statement M
 chikchiro-decide-spec =
@@ -58,15 +39,15 @@ chikchiro-decide-spec =
     returns
     returns-2
     returns-3
-    decided-requires
-    enum-known-verdict
+    (λ c κs. search needs)
+    (λ c. search needs)
     code-requires
     returns-4
-    enum-told
-    put-counts-requires
-    put-times-requires
-    slice-write-round
-    same-length
-    same-length-2
-    same-length-3
+    (λ c. search needs)
+    (λ c κs. search needs)
+    (λ c κs. search needs)
+    (λ c. search needs)
+    (λ c. search needs)
+    (λ c. search needs)
+    (λ c. search needs)
     returns-5)

@@ -20,32 +20,14 @@ abbrev μ-loop : tie.MeasureT-loop
 loop-holds : tie.Need-loop-holds Inv-loop μ-loop
 loop-holds c = (omega arith, (refl, refl))
 
-mul-byte : tie.Need-mul-byte Inv-loop μ-loop
-mul-byte c = search needs
-
 shared-slice-read-byte : tie.Need-shared-slice-read-byte Inv-loop μ-loop
 shared-slice-read-byte c = omega (arith, listed-within (c .before .before .before .before .before .args .text .now))
-
-mul-byte-2 : tie.Need-mul-byte-2 Inv-loop μ-loop
-mul-byte-2 c = search needs
-
-add-byte : tie.Need-add-byte Inv-loop μ-loop
-add-byte c = search needs
 
 shared-slice-read-byte-2 : tie.Need-shared-slice-read-byte-2 Inv-loop μ-loop
 shared-slice-read-byte-2 c = omega (arith, listed-within (c .before .before .before .before .before .before .args .text .now))
 
-byte-requires : tie.Need-byte-requires Inv-loop μ-loop
-byte-requires c κs = search needs
-
 slice-write-out : tie.Need-slice-write-out Inv-loop μ-loop
 slice-write-out c = omega arith
-
-add-i : tie.Need-add-i Inv-loop μ-loop
-add-i c = search needs
-
-loop-less : tie.Need-loop-less Inv-loop μ-loop
-loop-less c = search needs
 
 loop-again : tie.Need-loop-again Inv-loop μ-loop
 loop-again c =
@@ -61,9 +43,6 @@ loop-again c =
       ),
     )
 
-same-length : tie.Need-same-length Inv-loop μ-loop
-same-length c = search needs
-
 returns : tie.Need-returns Inv-loop μ-loop
 returns c =
     let a = c .before .before .before .before .args in
@@ -77,15 +56,15 @@ decode-spec =
     Inv-loop
     μ-loop
     loop-holds
-    mul-byte
+    (λ c. search needs)
     shared-slice-read-byte
-    mul-byte-2
-    add-byte
+    (λ c. search needs)
+    (λ c. search needs)
     shared-slice-read-byte-2
-    byte-requires
+    (λ c κs. search needs)
     slice-write-out
-    add-i
-    loop-less
+    (λ c. search needs)
+    (λ c. search needs)
     loop-again
-    same-length
+    (λ c. search needs)
     returns)

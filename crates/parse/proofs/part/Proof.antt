@@ -17,12 +17,6 @@ Inv-loop text mark k at₀ i₀ at i = (i ≤ k) × ((at ≤ length text) × (pa
 abbrev μ-loop : tie.MeasureT-loop
 μ-loop text mark k at₀ i₀ at i = k - i
 
-parts-requires : tie.Need-parts-requires Inv-loop μ-loop
-parts-requires c κs = search needs
-
-slice-aggregate-result : tie.Need-slice-aggregate-result Inv-loop μ-loop
-slice-aggregate-result c = search needs
-
 returns : tie.Need-returns Inv-loop μ-loop
 returns c =
     let a = c .before .before .before .before .args in
@@ -31,29 +25,14 @@ returns c =
 loop-holds : tie.Need-loop-holds Inv-loop μ-loop
 loop-holds c = (omega arith, (omega arith, let e : c .before .before .before .args .k - 0 ≡ c .before .before .before .args .k = omega arith in rw e))
 
-past-requires : tie.Need-past-requires Inv-loop μ-loop
-past-requires c κs = search needs
-
-add-i : tie.Need-add-i Inv-loop μ-loop
-add-i c = search needs
-
-loop-less : tie.Need-loop-less Inv-loop μ-loop
-loop-less c = search needs
-
 loop-again : tie.Need-loop-again Inv-loop μ-loop
 loop-again c =
     let s = c .before .before in
     let a = s .before .before .before .before .args in
     (omega arith, (omega arith, part-next (a .mark) (a .text .now) (s .loop .at) (a .k) (s .loop .i) (c .past .result) (c .before .loop-test .taken) (c .past .ensures .1) ∙ s .loop .inv .1 .1))
 
-next-requires : tie.Need-next-requires Inv-loop μ-loop
-next-requires c κs = search needs
-
 sub-result : tie.Need-sub-result Inv-loop μ-loop
 sub-result c = let e = c .next .ensures in omega arith
-
-part-result-start : tie.Need-part-result-start Inv-loop μ-loop
-part-result-start c = search needs
 
 part-result-end : tie.Need-part-result-end Inv-loop μ-loop
 part-result-end c =
@@ -75,16 +54,16 @@ part-spec =
     (tie.spec
     Inv-loop
     μ-loop
-    parts-requires
-    slice-aggregate-result
+    (λ c κs. search needs)
+    (λ c. search needs)
     returns
     loop-holds
-    past-requires
-    add-i
-    loop-less
+    (λ c κs. search needs)
+    (λ c. search needs)
+    (λ c. search needs)
     loop-again
-    next-requires
+    (λ c κs. search needs)
     sub-result
-    part-result-start
+    (λ c. search needs)
     part-result-end
     returns-2)

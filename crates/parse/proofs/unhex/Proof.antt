@@ -6,15 +6,6 @@ use borrow.Author.Needs.{needs}
 use Rattle.parse.proofs.unhex.Statement.{statement}
 use Rattle.parse.proofs.unhex.Tie as tie
 
-bytes-requires : tie.Need-bytes-requires
-bytes-requires c κs = search needs
-
-enum-known-count : tie.Need-enum-known-count
-enum-known-count c = search needs
-
-enum-told : tie.Need-enum-told
-enum-told c = search needs
-
 returns : tie.Need-returns
 returns c =
     let e = sym (c .before .before .bytes .ensures) ∙ c .enum-told .given .1 in
@@ -24,9 +15,6 @@ decode-requires : tie.Need-decode-requires
 decode-requires c κs =
     let e = sym (c .before .before .before .before .before .bytes .ensures) ∙ c .before .before .before .count .given .1 in
     (omega arith, omega (arith, count-is _ _ e))
-
-same-length : tie.Need-same-length
-same-length c = search needs
 
 returns-2 : tie.Need-returns-2
 returns-2 c =
@@ -38,9 +26,6 @@ decode-requires-2 c κs =
     let e = sym (c .before .before .before .before .before .bytes .ensures) ∙ c .before .before .before .count .given .1 in
     (omega arith, omega (arith, count-is _ _ e))
 
-same-length-2 : tie.Need-same-length-2
-same-length-2 c = search needs
-
 returns-3 : tie.Need-returns-3
 returns-3 c =
     let e = sym (c .before .before .before .before .before .before .before .before .bytes .ensures) ∙ c .before .before .before .before .before .before .count .given .1 in
@@ -50,13 +35,13 @@ pub unhex-spec : {M : Type 1} → statement M
 unhex-spec =
     tie.close
     (tie.spec
-    bytes-requires
-    enum-known-count
-    enum-told
+    (λ c κs. search needs)
+    (λ c. search needs)
+    (λ c. search needs)
     returns
     decode-requires
-    same-length
+    (λ c. search needs)
     returns-2
     decode-requires-2
-    same-length-2
+    (λ c. search needs)
     returns-3)

@@ -31,7 +31,9 @@ array-copy-out-tick : tie.Need-array-copy-out-tick Inv-loop μ-loop
 array-copy-out-tick c = let l = c .before .loop-test .taken in let h = c .before .before .before .before .pre .0 .few in omega arith
 
 tick-requires : tie.Need-tick-requires Inv-loop μ-loop
-tick-requires c κs = (advanced-ready _ _ _ _ _ (c .before .before .before .loop .inv) (c .before .before .before .before .before .pre .0) (c .before .before .loop-test .taken), c .before .before .before .before .before .pre .1)
+tick-requires c κs =
+    let d = c .before .before .before .before .before in
+    (advanced-ready _ _ _ _ _ (c .before .before .before .loop .inv) (d .pre .0) (c .before .before .loop-test .taken), d .pre .1)
 
 mul-states : tie.Need-mul-states Inv-loop μ-loop
 mul-states c = let l = c .before .before .before .loop-test .taken in let h = c .before .before .before .before .before .before .pre .0 .few in omega arith

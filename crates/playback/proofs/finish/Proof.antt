@@ -21,26 +21,11 @@ sized k = sized-first (k .before .before .before .before .before .before .before
 sound : (k : tie.After-known-told) → SoundRun (k .before .before .before .before .before .before .before .args .run)
 sound k = tested-sound _ _ (k .before .before .before .before .before .before .test-run .ensures) (k .before .before .before .before .enum-told .given .1)
 
-test-run-requires : tie.Need-test-run-requires
-test-run-requires c κs = search needs
-
-enum-told : tie.Need-enum-told
-enum-told c = search needs
-
-enum-told-2 : tie.Need-enum-told-2
-enum-told-2 c = search needs
-
 returns : tie.Need-returns
 returns c = finish-damaged _ _ (tested-damaged _ _ (c .before .before .test-run .ensures) (c .enum-told2 .given .1))
 
 returns-2 : tie.Need-returns-2
 returns-2 c = finish-long _ _ (tested-sound _ _ (c .before .before .before .test-run .ensures) (c .before .enum-told .given .1)) (c .if1 .taken)
-
-enum-known-underway : tie.Need-enum-known-underway
-enum-known-underway c = search needs
-
-enum-told-3 : tie.Need-enum-told-3
-enum-told-3 c = search needs
 
 returns-3 : tie.Need-returns-3
 returns-3 c = finish-nothing _ _ (tested-sound _ _ (c .before .before .before .before .before .test-run .ensures) (c .before .before .before .enum-told .given .1)) (c .before .before .if1 .left) (c .enum-told3 .given .1)
@@ -81,23 +66,22 @@ mul-count-off c = let k = c .before .before .before .before .before .before .bef
 array-read-count-off : tie.Need-array-read-count-off
 array-read-count-off c = let k = c .before .before .before .before .before .before .before .before in seated-few _ _ (c .place-after .ensures) (read-seated _ (sound k) _ (k .before .underway .given .1))
 
-count-off-requires : tie.Need-count-off-requires
-count-off-requires c κs = search needs
-
 returns-4 : tie.Need-returns-4
-returns-4 c = let k = c .before .before .before .before .before .before .before .before .before in rw (c .before .before .fill .ensures) (finish-counted _ _ (sound k) (k .before .before .before .if1 .left) _ _ _ _ (k .before .underway .given .1) (c .before .before .before .before .advance .ensures) (c .before .place-after .ensures) (c .count-off .ensures))
+returns-4 c =
+    let d = c .before .before .before .before in
+    let k = d .before .before .before .before .before in rw (c .before .before .fill .ensures) (finish-counted _ _ (sound k) (k .before .before .before .if1 .left) _ _ _ _ (k .before .underway .given .1) (d .advance .ensures) (c .before .place-after .ensures) (c .count-off .ensures))
 
 pub finish-spec : {M : Type 1} → statement M
 finish-spec =
     tie.close
     (tie.spec
-    test-run-requires
-    enum-told
-    enum-told-2
+    (λ c κs. search needs)
+    (λ c. search needs)
+    (λ c. search needs)
     returns
     returns-2
-    enum-known-underway
-    enum-told-3
+    (λ c. search needs)
+    (λ c. search needs)
     returns-3
     advance-requires
     mul-fill
@@ -111,5 +95,5 @@ finish-spec =
     cast-seat
     mul-count-off
     array-read-count-off
-    count-off-requires
+    (λ c κs. search needs)
     returns-4)

@@ -10,15 +10,6 @@ use Rattle.playback.proofs.pass.Tie as tie
 sound : (k : tie.Else1) → SoundRun (k .before .before .before .before .args .run)
 sound k = tested-sound _ _ (k .before .before .before .test-run .ensures) (k .before .enum-told .given .1)
 
-test-run-requires : tie.Need-test-run-requires
-test-run-requires c κs = search needs
-
-enum-told : tie.Need-enum-told
-enum-told c = search needs
-
-enum-told-2 : tie.Need-enum-told-2
-enum-told-2 c = search needs
-
 returns : tie.Need-returns
 returns c = pass-damaged _ _ (tested-damaged _ _ (c .before .before .test-run .ensures) (c .enum-told2 .given .1))
 
@@ -34,4 +25,4 @@ returns-3 c = let k = c .before .before .before in pass-granted _ _ (sound k) _ 
 pub pass-spec : {M : Type 1} → statement M
 pass-spec =
     tie.close
-    (tie.spec test-run-requires enum-told enum-told-2 returns returns-2 advance-requires returns-3)
+    (tie.spec (λ c κs. search needs) (λ c. search needs) (λ c. search needs) returns returns-2 advance-requires returns-3)

@@ -14,15 +14,6 @@ sound c = tested-sound _ _ (c .before .before .test-run .ensures) (c .enum-told 
 few : (c : tie.Else1) → c .before .before .before .before .args .session < 16
 few c = let n = sound (c .before) .within .counts .sessions in let l = c .if1 .left in omega arith
 
-test-run-requires : tie.Need-test-run-requires
-test-run-requires c κs = search needs
-
-enum-told : tie.Need-enum-told
-enum-told c = search needs
-
-enum-told-2 : tie.Need-enum-told-2
-enum-told-2 c = search needs
-
 returns : tie.Need-returns
 returns c = take-damaged _ _ _ (tested-damaged _ _ (c .before .before .test-run .ensures) (c .enum-told2 .given .1))
 
@@ -40,15 +31,6 @@ mul-take-from-2 c = let l = few (c .before .before) in omega arith
 
 element-copy-out-take-from-2 : tie.Need-element-copy-out-take-from-2
 element-copy-out-take-from-2 c = few (c .before .before)
-
-take-from-requires : tie.Need-take-from-requires
-take-from-requires c κs = search needs
-
-enum-told-3 : tie.Need-enum-told-3
-enum-told-3 c = search needs
-
-enum-told-4 : tie.Need-enum-told-4
-enum-told-4 c = search needs
 
 returns-3 : tie.Need-returns-3
 returns-3 c =
@@ -70,18 +52,18 @@ pub take-spec : {M : Type 1} → statement M
 take-spec =
     tie.close
     (tie.spec
-    test-run-requires
-    enum-told
-    enum-told-2
+    (λ c κs. search needs)
+    (λ c. search needs)
+    (λ c. search needs)
     returns
     returns-2
     mul-take-from
     element-copy-out-take-from
     mul-take-from-2
     element-copy-out-take-from-2
-    take-from-requires
-    enum-told-3
-    enum-told-4
+    (λ c κs. search needs)
+    (λ c. search needs)
+    (λ c. search needs)
     returns-3
     mul-state
     element-set-from-state

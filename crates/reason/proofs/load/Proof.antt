@@ -12,17 +12,8 @@ use borrow.Author.Needs.{needs}
 use Rattle.reason.proofs.load.Statement.{statement}
 use Rattle.reason.proofs.load.Tie as tie
 
-check-requires : tie.Need-check-requires
-check-requires c κs = search needs
-
-enum-known-check : tie.Need-enum-known-check
-enum-known-check c = search needs
-
 returns : tie.Need-returns
 returns c = sym (load-refused _ _ (sym (c .before .before .before .check .ensures) ∙ c .before .check2 .given .1))
-
-enum-told : tie.Need-enum-told
-enum-told c = search needs
 
 within : (c : tie.After-enum-told) → ShowWithin (c .before .before .before .args .show)
 within c = check-within _ (sym (c .before .before .check .ensures) ∙ c .enum-told .given .1)
@@ -30,32 +21,25 @@ within c = check-within _ (sym (c .before .before .check .ensures) ∙ c .enum-t
 weigh-requires : tie.Need-weigh-requires
 weigh-requires c κs = within c
 
-mul-whole : tie.Need-mul-whole
-mul-whole c = search needs
-
-mul-part : tie.Need-mul-part
-mul-part c = search needs
-
-div-part : tie.Need-div-part
-div-part c = search needs
-
 add-t7 : tie.Need-add-t7
 add-t7 c = let h = c .before .before .before .weigh .ensures .1 .whole in let g = c .before .before .before .weigh .ensures .1 .part in let d = div-le-self (c .before .before .before .weigh .result .part * 1000) (c .before .before .before .weigh .result .full) in let f = c .before .before .before .weigh .ensures .1 .full in omega arith
 
 returns-2 : tie.Need-returns-2
-returns-2 c = ap Tenths (tenths-parts _ _ (c .before .before .before .weigh .ensures .0) (c .before .before .before .weigh .ensures .1)) ∙ sym (load-told _ (sym (c .before .before .before .before .before .before .check .ensures) ∙ c .before .before .before .before .enum-told .given .1))
+returns-2 c =
+    let d = c .before .before .before .before in
+    ap Tenths (tenths-parts _ _ (c .before .before .before .weigh .ensures .0) (c .before .before .before .weigh .ensures .1)) ∙ sym (load-told _ (sym (d .before .before .check .ensures) ∙ d .enum-told .given .1))
 
 pub load-spec : {M : Type 1} → statement M
 load-spec =
     tie.close
     (tie.spec
-    check-requires
-    enum-known-check
+    (λ c κs. search needs)
+    (λ c. search needs)
     returns
-    enum-told
+    (λ c. search needs)
     weigh-requires
-    mul-whole
-    mul-part
-    div-part
+    (λ c. search needs)
+    (λ c. search needs)
+    (λ c. search needs)
     add-t7
     returns-2)

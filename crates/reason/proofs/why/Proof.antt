@@ -9,17 +9,8 @@ use borrow.Author.Needs.{needs}
 use Rattle.reason.proofs.why.Statement.{statement}
 use Rattle.reason.proofs.why.Tie as tie
 
-check-requires : tie.Need-check-requires
-check-requires c κs = search needs
-
-enum-known-check : tie.Need-enum-known-check
-enum-known-check c = search needs
-
 returns : tie.Need-returns
 returns c = outside _ (sym (c .before .before .before .check .ensures) ∙ c .before .check2 .given .1)
-
-enum-told : tie.Need-enum-told
-enum-told c = search needs
 
 within : (c : tie.After-enum-told) → ShowWithin (c .before .before .before .args .show)
 within c = check-within _ (sym (c .before .before .check .ensures) ∙ c .enum-told .given .1)
@@ -33,40 +24,30 @@ returns-2 c = overloads _ (within (c .before .before .before)) _ (c .before .bef
 widest-requires : tie.Need-widest-requires
 widest-requires c κs = within (c .before .before .before)
 
-decide-requires : tie.Need-decide-requires
-decide-requires c κs = search needs
-
-enum-told-2 : tie.Need-enum-told-2
-enum-told-2 c = search needs
-
-enum-told-3 : tie.Need-enum-told-3
-enum-told-3 c = search needs
-
 returns-3 : tie.Need-returns-3
 returns-3 c =
     beyond-them _ (within (c .before .before .before .before .before .before .before .before)) _ (c .before .before .before .before .before .before .before .weigh .ensures .0) (c .before .before .before .before .before .before .before .weigh .ensures .1) (let h = c .before .before .before .before .before .if1 .left in omega arith) _
     (rw (c .before .before .before .before .widest .ensures) at (c .before .before .before .decide .ensures)) _ (c .enum-told3 .given .1)
 
 lowest-short-requires : tie.Need-lowest-short-requires
-lowest-short-requires c κs = (within (c .before .before .before .before .before .before .before .before), wide-counts _ _ (rw (c .before .before .before .before .widest .ensures) at (c .before .before .before .decide .ensures)) (c .enum-told2 .given .1))
-
-returns-4 : tie.Need-returns-4
-returns-4 c = search needs
+lowest-short-requires c κs =
+    let d = c .before .before .before .before in
+    (within (d .before .before .before .before), wide-counts _ _ (rw (d .widest .ensures) at (c .before .before .before .decide .ensures)) (c .enum-told2 .given .1))
 
 pub why-spec : {M : Type 1} → statement M
 why-spec =
     tie.close
     (tie.spec
-    check-requires
-    enum-known-check
+    (λ c κs. search needs)
+    (λ c. search needs)
     returns
-    enum-told
+    (λ c. search needs)
     weigh-requires
     returns-2
     widest-requires
-    decide-requires
-    enum-told-2
-    enum-told-3
+    (λ c κs. search needs)
+    (λ c. search needs)
+    (λ c. search needs)
     returns-3
     lowest-short-requires
-    returns-4)
+    (λ c. search needs))

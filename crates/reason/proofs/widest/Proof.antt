@@ -15,29 +15,11 @@ Inv-loop show sessions₀ i₀ sessions i = WideTo show sessions i
 abbrev μ-loop : tie.MeasureT-loop
 μ-loop show sessions₀ i₀ sessions i = show .playing - i
 
-nothing-requires : tie.Need-nothing-requires Inv-loop μ-loop
-nothing-requires c κs = search needs
-
 loop-holds : tie.Need-loop-holds Inv-loop μ-loop
 loop-holds c = record { inside = omega arith; row = rw (c .before .nothing .ensures) (filled-none 16 noSession _) }
 
-mul-session : tie.Need-mul-session Inv-loop μ-loop
-mul-session c = search needs
-
 element-copy-out-session : tie.Need-element-copy-out-session Inv-loop μ-loop
 element-copy-out-session c = let n = c .before .before .before .before .pre .counts .sessions in let l = c .loop-test .taken in omega arith
-
-mul-sessions : tie.Need-mul-sessions Inv-loop μ-loop
-mul-sessions c = search needs
-
-array-set-from-sessions : tie.Need-array-set-from-sessions Inv-loop μ-loop
-array-set-from-sessions c = search needs
-
-add-i : tie.Need-add-i Inv-loop μ-loop
-add-i c = search needs
-
-loop-less : tie.Need-loop-less Inv-loop μ-loop
-loop-less c = search needs
 
 loop-again : tie.Need-loop-again Inv-loop μ-loop
 loop-again c = wide-body _ (c .before .before .before .before .before .pre) _ _ _ (c .before .before .loop .inv) (c .before .loop-test .taken) refl
@@ -51,13 +33,13 @@ widest-spec =
     (tie.spec
     Inv-loop
     μ-loop
-    nothing-requires
+    (λ c κs. search needs)
     loop-holds
-    mul-session
+    (λ c. search needs)
     element-copy-out-session
-    mul-sessions
-    array-set-from-sessions
-    add-i
-    loop-less
+    (λ c. search needs)
+    (λ c. search needs)
+    (λ c. search needs)
+    (λ c. search needs)
     loop-again
     returns)

@@ -24,9 +24,6 @@ rest s d = sessionLines (loadOf s) (setOf (d .counts)) (s .playing)
 first-same : (s : Show) (d : Decision) → d .round ≡ roundTime (loadOf s) (setOf (d .counts)) → twoLine (ascii "accepted ") (s .playing) (d .round) ≡ first s d
 first-same s d e = ap (λ (t : ℕ). twoLine (ascii "accepted ") (s .playing) t) e
 
-slice-aggregate-put-two : tie.Need-slice-aggregate-put-two
-slice-aggregate-put-two c = search needs
-
 put-two-requires : tie.Need-put-two-requires
 put-two-requires c κs =
     let a = c .before .before .before .before .before .args in
@@ -41,9 +38,6 @@ put-sessions-requires c κs =
           (put-as (first-same (a .show) (a .decision) (c .before .before .before .before .before .before .before .before .before .pre .1 .0)) (p .ensures)) (p .kept .0),
     )
 
-same-length : tie.Need-same-length
-same-length c = search needs
-
 returns : tie.Need-returns
 returns c =
     let a = c .before .before .before .before .before .before .before .before .before .before .before .before .args in
@@ -54,4 +48,4 @@ returns c =
 pub put-accepted-spec : {M : Type 1} → statement M
 put-accepted-spec =
     tie.close
-    (tie.spec slice-aggregate-put-two put-two-requires put-sessions-requires same-length returns)
+    (tie.spec (λ c. search needs) put-two-requires put-sessions-requires (λ c. search needs) returns)

@@ -7,23 +7,11 @@ use borrow.Author.Needs.{needs}
 use Rattle.report.proofs.put_refusal.Statement.{statement}
 use Rattle.report.proofs.put_refusal.Tie as tie
 
-told-requires : tie.Need-told-requires
-told-requires c κs = search needs
-
-slice-aggregate-put-two : tie.Need-slice-aggregate-put-two
-slice-aggregate-put-two c = search needs
-
-cast-put-two : tie.Need-cast-put-two
-cast-put-two c = search needs
-
 put-two-requires : tie.Need-put-two-requires
 put-two-requires c κs =
     let a = c .before .before .before .before .before .args in
     let t = c .before .before .before .told in
     room-as (refusal-made (a .why) (t .result) (t .ensures)) (record { fits = omega (arith, refused-few (a .why), c .before .before .before .before .before .pre) })
-
-same-length : tie.Need-same-length
-same-length c = search needs
 
 returns : tie.Need-returns
 returns c =
@@ -35,9 +23,9 @@ pub put-refusal-spec : {M : Type 1} → statement M
 put-refusal-spec =
     tie.close
     (tie.spec
-    told-requires
-    slice-aggregate-put-two
-    cast-put-two
+    (λ c κs. search needs)
+    (λ c. search needs)
+    (λ c. search needs)
     put-two-requires
-    same-length
+    (λ c. search needs)
     returns)

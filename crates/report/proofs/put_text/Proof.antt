@@ -5,18 +5,6 @@ use borrow.Author.Needs.{needs}
 use Rattle.report.proofs.put_text.Statement.{statement}
 use Rattle.report.proofs.put_text.Tie as tie
 
-read-requires : tie.Need-read-requires
-read-requires c κs = search needs
-
-enum-known-check : tie.Need-enum-known-check
-enum-known-check c = search needs
-
-put-refusal-requires : tie.Need-put-refusal-requires
-put-refusal-requires c κs = search needs
-
-same-length : tie.Need-same-length
-same-length c = search needs
-
 returns : tie.Need-returns
 returns c =
     record {
@@ -24,21 +12,6 @@ returns c =
       holds = told-unread _ (c .before .before .before .before .before .before .before .read .result) (c .before .before .before .before .before .before .before .read .ensures) _ (c .before .before .before .before .before .check .given .1);
       put = c .before .before .put-refusal .ensures;
     }
-
-enum-told : tie.Need-enum-told
-enum-told c = search needs
-
-decide-requires : tie.Need-decide-requires
-decide-requires c κs = search needs
-
-enum-known-verdict : tie.Need-enum-known-verdict
-enum-known-verdict c = search needs
-
-put-refusal-requires-2 : tie.Need-put-refusal-requires-2
-put-refusal-requires-2 c κs = search needs
-
-same-length-2 : tie.Need-same-length-2
-same-length-2 c = search needs
 
 returns-2 : tie.Need-returns-2
 returns-2 c =
@@ -48,16 +21,10 @@ returns-2 c =
       put = c .before .before .put-refusal2 .ensures;
     }
 
-enum-told-2 : tie.Need-enum-told-2
-enum-told-2 c = search needs
-
 put-accepted-requires : tie.Need-put-accepted-requires
 put-accepted-requires c κs =
     let y = told-yes _ (c .before .before .before .before .before .before .before .read .result) (c .before .before .before .before .before .before .before .read .ensures) (c .before .before .before .before .before .enum-told .given .1) (c .before .before .before .decide .result) (c .before .before .before .decide .ensures) (c .before .enum-told2 .given .1) in
     (y .timed, (y .round, text-room _ _ _ (y .told) (c .before .before .before .before .before .before .before .before .before .before .pre)))
-
-same-length-3 : tie.Need-same-length-3
-same-length-3 c = search needs
 
 returns-3 : tie.Need-returns-3
 returns-3 c =
@@ -68,18 +35,18 @@ pub put-text-spec : {M : Type 1} → statement M
 put-text-spec =
     tie.close
     (tie.spec
-    read-requires
-    enum-known-check
-    put-refusal-requires
-    same-length
+    (λ c κs. search needs)
+    (λ c. search needs)
+    (λ c κs. search needs)
+    (λ c. search needs)
     returns
-    enum-told
-    decide-requires
-    enum-known-verdict
-    put-refusal-requires-2
-    same-length-2
+    (λ c. search needs)
+    (λ c κs. search needs)
+    (λ c. search needs)
+    (λ c κs. search needs)
+    (λ c. search needs)
     returns-2
-    enum-told-2
+    (λ c. search needs)
     put-accepted-requires
-    same-length-3
+    (λ c. search needs)
     returns-3)

@@ -4,20 +4,8 @@ use borrow.Author.Needs.{needs}
 use Rattle.run.proofs.open.Statement.{statement}
 use Rattle.run.proofs.open.Tie as tie
 
-decide-requires : tie.Need-decide-requires
-decide-requires c κs = search needs
-
-enum-known-verdict : tie.Need-enum-known-verdict
-enum-known-verdict c = search needs
-
-no-run-requires : tie.Need-no-run-requires
-no-run-requires c κs = search needs
-
 returns : tie.Need-returns
 returns c = open-refused _ _ (c .before .before .before .before .decide .ensures) _ _ (c .before .before .verdict .given .1) (c .no-run .ensures)
-
-enum-told : tie.Need-enum-told
-enum-told c = search needs
 
 first-run-requires : tie.Need-first-run-requires
 first-run-requires c κs = open-few _ _ (c .before .before .before .decide .ensures) (c .before .enum-told .given .1)
@@ -29,10 +17,10 @@ pub open-spec : {M : Type 1} → statement M
 open-spec =
     tie.close
     (tie.spec
-    decide-requires
-    enum-known-verdict
-    no-run-requires
+    (λ c κs. search needs)
+    (λ c. search needs)
+    (λ c κs. search needs)
     returns
-    enum-told
+    (λ c. search needs)
     first-run-requires
     returns-2)

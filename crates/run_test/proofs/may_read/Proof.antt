@@ -6,20 +6,11 @@ use borrow.Author.Needs.{needs}
 use Rattle.run_test.proofs.may_read.Statement.{statement}
 use Rattle.run_test.proofs.may_read.Tie as tie
 
-enum-known-underway : tie.Need-enum-known-underway
-enum-known-underway c = search needs
-
-enum-told : tie.Need-enum-told
-enum-told c = search needs
-
 returns : tie.Need-returns
 returns c = λ i e. nothing-read (sym (c .enum-told .given .1) ∙ e)
 
 returns-2 : tie.Need-returns-2
 returns-2 c = λ h. c .if1 .taken (h _ (c .before .before .underway .given .1) .same)
-
-takes-one-requires : tie.Need-takes-one-requires
-takes-one-requires c κs = search needs
 
 returns-3 : tie.Need-returns-3
 returns-3 c = read-told _ _ _ _ _ _ (c .before .before .before .underway .given .1) (c .before .if1 .left) (c .takes-one .result) (c .takes-one .ensures)
@@ -28,9 +19,9 @@ pub may-read-spec : {M : Type 1} → statement M
 may-read-spec =
     tie.close
     (tie.spec
-    enum-known-underway
-    enum-told
+    (λ c. search needs)
+    (λ c. search needs)
     returns
     returns-2
-    takes-one-requires
+    (λ c κs. search needs)
     returns-3)

@@ -21,9 +21,6 @@ mul-session c = let l = c .loop-test .taken in let h = c .before .before .pre in
 array-read-session : tie.Need-array-read-session Inv-loop μ-loop
 array-read-session c = let l = c .loop-test .taken in let h = c .before .before .pre in omega arith
 
-cast-session : tie.Need-cast-session Inv-loop μ-loop
-cast-session c = search needs
-
 returns : tie.Need-returns Inv-loop μ-loop
 returns c = named-past _ _ _ _ (c .before .before .loop .inv) (c .before .loop-test .taken) (c .if1 .taken)
 
@@ -57,7 +54,7 @@ names-each-spec =
     loop-holds
     mul-session
     array-read-session
-    cast-session
+    (λ c. search needs)
     returns
     array-read-if2
     returns-2

@@ -23,12 +23,6 @@ Inv-loop run show counts i₀ i = StatesTo run i
 abbrev μ-loop : tie.MeasureT-loop
 μ-loop run show counts i₀ i = run .show .playing - i
 
-tried-requires : tie.Need-tried-requires Inv-loop μ-loop
-tried-requires c κs = search needs
-
-enum-told : tie.Need-enum-told Inv-loop μ-loop
-enum-told c = search needs
-
 returns : tie.Need-returns Inv-loop μ-loop
 returns c =
     test-damaged _ (λ s. trial-bad _ _ _ (c .before .tried .ensures)
@@ -51,9 +45,6 @@ mul-within-2 c = let l = c .before .loop-test .taken in let h = good (c .before 
 
 element-copy-out-within-2 : tie.Need-element-copy-out-within-2 Inv-loop μ-loop
 element-copy-out-within-2 c = let l = c .before .loop-test .taken in let h = good (c .before .before .before) .0 .counts .sessions in omega arith
-
-within-requires : tie.Need-within-requires Inv-loop μ-loop
-within-requires c κs = search needs
 
 returns-2 : tie.Need-returns-2 Inv-loop μ-loop
 returns-2 c =
@@ -78,12 +69,6 @@ returns-3 c = test-damaged _ (λ s. tells-no _ (c .before .names-each .result) (
 
 names : (c : tie.Else2 Inv-loop μ-loop) → NamesEach (c .before .before .before .before .before .before .before .before .before .before .args .t1 .order) (c .before .before .before .before .before .before .before .before .before .before .args .t1 .show .playing)
 names c = tells-yes _ (c .before .names-each .result) (not-false _ (c .if2 .left)) (c .before .names-each .ensures)
-
-rests-requires : tie.Need-rests-requires Inv-loop μ-loop
-rests-requires c κs = search needs
-
-told-requires : tie.Need-told-requires Inv-loop μ-loop
-told-requires c κs = search needs
 
 returns-4 : tie.Need-returns-4 Inv-loop μ-loop
 returns-4 c =
@@ -120,16 +105,14 @@ element-copy-out-may-read : tie.Need-element-copy-out-may-read Inv-loop μ-loop
 element-copy-out-may-read c = let b = names-below _ _ (names (c .before .before .before)) _ (placed c .inside) in let h = good (c .before .before .before .before .before .before .before .before) .0 .counts .sessions in omega arith
 
 mul-may-read-2 : tie.Need-mul-may-read-2 Inv-loop μ-loop
-mul-may-read-2 c = let b = names-below _ _ (names (c .before .before .before .before)) _ (placed (c .before) .inside) in let h = good (c .before .before .before .before .before .before .before .before .before) .0 .counts .sessions in omega arith
+mul-may-read-2 c =
+    let d = c .before .before .before .before in
+    let b = names-below _ _ (names (d)) _ (placed (c .before) .inside) in let h = good (d .before .before .before .before .before) .0 .counts .sessions in omega arith
 
 element-copy-out-may-read-2 : tie.Need-element-copy-out-may-read-2 Inv-loop μ-loop
-element-copy-out-may-read-2 c = let b = names-below _ _ (names (c .before .before .before .before)) _ (placed (c .before) .inside) in let h = good (c .before .before .before .before .before .before .before .before .before) .0 .counts .sessions in omega arith
-
-may-read-requires : tie.Need-may-read-requires Inv-loop μ-loop
-may-read-requires c κs = search needs
-
-told-requires-2 : tie.Need-told-requires-2 Inv-loop μ-loop
-told-requires-2 c κs = search needs
+element-copy-out-may-read-2 c =
+    let d = c .before .before .before .before in
+    let b = names-below _ _ (names (d)) _ (placed (c .before) .inside) in let h = good (d .before .before .before .before .before) .0 .counts .sessions in omega arith
 
 returns-6 : tie.Need-returns-6 Inv-loop μ-loop
 returns-6 c =
@@ -143,23 +126,23 @@ test-run-spec =
     (tie.spec
     Inv-loop
     μ-loop
-    tried-requires
-    enum-told
+    (λ c κs. search needs)
+    (λ c. search needs)
     returns
     loop-holds
     mul-within
     element-copy-out-within
     mul-within-2
     element-copy-out-within-2
-    within-requires
+    (λ c κs. search needs)
     returns-2
     add-i
     loop-less
     loop-again
     names-each-requires
     returns-3
-    rests-requires
-    told-requires
+    (λ c κs. search needs)
+    (λ c κs. search needs)
     returns-4
     turns-requires
     returns-5
@@ -170,6 +153,6 @@ test-run-spec =
     element-copy-out-may-read
     mul-may-read-2
     element-copy-out-may-read-2
-    may-read-requires
-    told-requires-2
+    (λ c κs. search needs)
+    (λ c κs. search needs)
     returns-6)

@@ -18,23 +18,8 @@ Inv-loop run show playing k₀ k = SkippedTo run k
 abbrev μ-loop : tie.MeasureT-loop
 μ-loop run show playing k₀ k = run .show .playing - k
 
-test-run-requires : tie.Need-test-run-requires Inv-loop μ-loop
-test-run-requires c κs = search needs
-
-enum-told : tie.Need-enum-told Inv-loop μ-loop
-enum-told c = search needs
-
-enum-told-2 : tie.Need-enum-told-2 Inv-loop μ-loop
-enum-told-2 c = search needs
-
 returns : tie.Need-returns Inv-loop μ-loop
 returns c = choose-damaged _ (tested-damaged _ _ (c .before .before .test-run .ensures) (c .enum-told2 .given .1))
-
-enum-told-3 : tie.Need-enum-told-3 Inv-loop μ-loop
-enum-told-3 c = search needs
-
-enum-told-4 : tie.Need-enum-told-4 Inv-loop μ-loop
-enum-told-4 c = search needs
 
 returns-2 : tie.Need-returns-2 Inv-loop μ-loop
 returns-2 c = choose-busy _ (tested-sound _ _ (c .before .before .before .before .test-run .ensures) (c .before .before .enum-told .given .1)) _ (c .enum-told4 .given .1)
@@ -46,37 +31,48 @@ loop-holds : tie.Need-loop-holds Inv-loop μ-loop
 loop-holds c = skips-none _
 
 add-at : tie.Need-add-at Inv-loop μ-loop
-add-at c = let s = sound-seated _ (tested-sound _ _ (c .before .before .before .before .before .before .before .before .test-run .ensures) (c .before .before .before .before .before .before .enum-told .given .1)) (let n = c .before .before .before .if1 .left in omega arith) in let p = s .place in let n = s .some .high in let l = c .loop-test .taken in omega arith
+add-at c =
+    let d = c .before .before .before .before .before .before in
+    let s = sound-seated _ (tested-sound _ _ (d .before .before .test-run .ensures) (d .enum-told .given .1)) (let n = c .before .before .before .if1 .left in omega arith) in let p = s .place in let n = s .some .high in let l = c .loop-test .taken in omega arith
 
 rem-at : tie.Need-rem-at Inv-loop μ-loop
 rem-at c = let l = c .loop-test .taken in omega arith
 
 mul-seat : tie.Need-mul-seat Inv-loop μ-loop
-mul-seat c = let b = onward-few _ (sound-seated _ (tested-sound _ _ (c .before .before .before .before .before .before .before .before .test-run .ensures) (c .before .before .before .before .before .before .enum-told .given .1)) (let n = c .before .before .before .if1 .left in omega arith)) (c .before .loop .k) in omega arith
+mul-seat c =
+    let d = c .before .before .before .before .before .before in
+    let b = onward-few _ (sound-seated _ (tested-sound _ _ (d .before .before .test-run .ensures) (d .enum-told .given .1)) (let n = c .before .before .before .if1 .left in omega arith)) (c .before .loop .k) in omega arith
 
 element-copy-out-seat : tie.Need-element-copy-out-seat Inv-loop μ-loop
-element-copy-out-seat c = onward-few _ (sound-seated _ (tested-sound _ _ (c .before .before .before .before .before .before .before .before .test-run .ensures) (c .before .before .before .before .before .before .enum-told .given .1)) (let n = c .before .before .before .if1 .left in omega arith)) (c .before .loop .k)
-
-cast-seat : tie.Need-cast-seat Inv-loop μ-loop
-cast-seat c = search needs
+element-copy-out-seat c =
+    let d = c .before .before .before .before .before .before in
+    onward-few _ (sound-seated _ (tested-sound _ _ (d .before .before .test-run .ensures) (d .enum-told .given .1)) (let n = c .before .before .before .if1 .left in omega arith)) (c .before .loop .k)
 
 mul-room : tie.Need-mul-room Inv-loop μ-loop
-mul-room c = let b = ahead-few _ (sound-seated _ (tested-sound _ _ (c .before .before .before .before .before .before .before .before .before .test-run .ensures) (c .before .before .before .before .before .before .before .enum-told .given .1)) (let n = c .before .before .before .before .if1 .left in omega arith)) (c .before .before .loop .k) in omega arith
+mul-room c =
+    let d = c .before .before .before .before in
+    let b = ahead-few _ (sound-seated _ (tested-sound _ _ (d .before .before .before .before .before .test-run .ensures) (d .before .before .before .enum-told .given .1)) (let n = d .if1 .left in omega arith)) (c .before .before .loop .k) in omega arith
 
 element-copy-out-room : tie.Need-element-copy-out-room Inv-loop μ-loop
-element-copy-out-room c = ahead-few _ (sound-seated _ (tested-sound _ _ (c .before .before .before .before .before .before .before .before .before .test-run .ensures) (c .before .before .before .before .before .before .before .enum-told .given .1)) (let n = c .before .before .before .before .if1 .left in omega arith)) (c .before .before .loop .k)
+element-copy-out-room c =
+    let d = c .before .before .before .before in
+    ahead-few _ (sound-seated _ (tested-sound _ _ (d .before .before .before .before .before .test-run .ensures) (d .before .before .before .enum-told .given .1)) (let n = d .if1 .left in omega arith)) (c .before .before .loop .k)
 
 mul-room-2 : tie.Need-mul-room-2 Inv-loop μ-loop
-mul-room-2 c = let b = ahead-few _ (sound-seated _ (tested-sound _ _ (c .before .before .before .before .before .before .before .before .before .before .test-run .ensures) (c .before .before .before .before .before .before .before .before .enum-told .given .1)) (let n = c .before .before .before .before .before .if1 .left in omega arith)) (c .before .before .before .loop .k) in omega arith
+mul-room-2 c =
+    let d = c .before .before .before .before .before in
+    let b = ahead-few _ (sound-seated _ (tested-sound _ _ (d .before .before .before .before .before .test-run .ensures) (d .before .before .before .enum-told .given .1)) (let n = d .if1 .left in omega arith)) (c .before .before .before .loop .k) in omega arith
 
 element-copy-out-room-2 : tie.Need-element-copy-out-room-2 Inv-loop μ-loop
-element-copy-out-room-2 c = ahead-few _ (sound-seated _ (tested-sound _ _ (c .before .before .before .before .before .before .before .before .before .before .test-run .ensures) (c .before .before .before .before .before .before .before .before .enum-told .given .1)) (let n = c .before .before .before .before .before .if1 .left in omega arith)) (c .before .before .before .loop .k)
-
-room-requires : tie.Need-room-requires Inv-loop μ-loop
-room-requires c κs = search needs
+element-copy-out-room-2 c =
+    let d = c .before .before .before .before .before in
+    ahead-few _ (sound-seated _ (tested-sound _ _ (d .before .before .before .before .before .test-run .ensures) (d .before .before .before .enum-told .given .1)) (let n = d .if1 .left in omega arith)) (c .before .before .before .loop .k)
 
 arrive-requires : tie.Need-arrive-requires Inv-loop μ-loop
-arrive-requires c κs = ((tested-sound _ _ (c .before .before .before .before .before .before .before .before .before .before .before .before .before .test-run .ensures) (c .before .before .before .before .before .before .before .before .before .before .before .enum-told .given .1)), c .before .before .before .before .before .loop-test .taken)
+arrive-requires c κs =
+    let d = c .before .before .before .before .before in
+    let s = d .before .before .before .before .before .before in
+    ((tested-sound _ _ (s .before .before .test-run .ensures) (s .enum-told .given .1)), d .loop-test .taken)
 
 returns-4 : tie.Need-returns-4 Inv-loop μ-loop
 returns-4 c =
@@ -90,10 +86,14 @@ loop-less : tie.Need-loop-less Inv-loop μ-loop
 loop-less c = let l = c .before .before .before .before .before .loop-test .taken in omega arith
 
 loop-again : tie.Need-loop-again Inv-loop μ-loop
-loop-again c = skips-more _ _ (c .before .before .before .before .before .before .loop .inv) (c .before .before .before .before .before .loop-test .taken) (tells-no _ (c .before .room .result) (c .if2 .left) (c .before .room .ensures))
+loop-again c =
+    let d = c .before .before .before .before .before in
+    skips-more _ _ (d .before .loop .inv) (d .loop-test .taken) (tells-no _ (c .before .room .result) (c .if2 .left) (c .before .room .ensures))
 
 idle-requires : tie.Need-idle-requires Inv-loop μ-loop
-idle-requires c κs = sound-seated _ (tested-sound _ _ (c .before .before .before .before .before .before .before .before .test-run .ensures) (c .before .before .before .before .before .before .enum-told .given .1)) (let n = c .before .before .before .if1 .left in omega arith)
+idle-requires c κs =
+    let d = c .before .before .before .before .before .before in
+    sound-seated _ (tested-sound _ _ (d .before .before .test-run .ensures) (d .enum-told .given .1)) (let n = c .before .before .before .if1 .left in omega arith)
 
 returns-5 : tie.Need-returns-5 Inv-loop μ-loop
 returns-5 c =
@@ -106,12 +106,12 @@ choose-spec =
     (tie.spec
     Inv-loop
     μ-loop
-    test-run-requires
-    enum-told
-    enum-told-2
+    (λ c κs. search needs)
+    (λ c. search needs)
+    (λ c. search needs)
     returns
-    enum-told-3
-    enum-told-4
+    (λ c. search needs)
+    (λ c. search needs)
     returns-2
     returns-3
     loop-holds
@@ -119,12 +119,12 @@ choose-spec =
     rem-at
     mul-seat
     element-copy-out-seat
-    cast-seat
+    (λ c. search needs)
     mul-room
     element-copy-out-room
     mul-room-2
     element-copy-out-room-2
-    room-requires
+    (λ c κs. search needs)
     arrive-requires
     returns-4
     add-k

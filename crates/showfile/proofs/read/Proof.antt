@@ -14,12 +14,6 @@ use Rattle.showfile.proofs.read.Tie as tie
 size : (c : tie.Else1) → Between fileLeast (length (c .before .before .before .args .file .now)) fileMost
 size c = tells-yes _ (c .before .length-within .result) (not-false _ (c .if1 .left)) (c .before .length-within .ensures)
 
-length-within-requires : tie.Need-length-within-requires
-length-within-requires c κs = search needs
-
-refused-requires : tie.Need-refused-requires
-refused-requires c κs = search needs
-
 returns : tie.Need-returns
 returns c = c .refused .ensures ∙ read-length _ (tells-no _ (c .before .before .length-within .result) (not-true _ (c .before .if1 .taken)) (c .before .before .length-within .ensures))
 
@@ -29,40 +23,32 @@ sub-at c = size c .low
 get-trailer-requires : tie.Need-get-trailer-requires
 get-trailer-requires c κs = let s = size c in omega arith
 
-check-requires : tie.Need-check-requires
-check-requires c κs = search needs
-
-enum-known-check : tie.Need-enum-known-check
-enum-known-check c = search needs
-
-refused-requires-2 : tie.Need-refused-requires-2
-refused-requires-2 c κs = search needs
-
 returns-2 : tie.Need-returns-2
-returns-2 c = c .refused2 .ensures ∙ read-trailer _ (size (c .before .before .before .before .before .before)) _ (c .before .before .before .before .before .get-trailer .ensures) (sym (c .before .before .before .before .check .ensures) ∙ c .before .before .check2 .given .1)
-
-enum-told : tie.Need-enum-told
-enum-told c = search needs
+returns-2 c =
+    let d = c .before .before .before .before in
+    c .refused2 .ensures ∙ read-trailer _ (size (d .before .before)) _ (d .before .get-trailer .ensures) (sym (d .check .ensures) ∙ c .before .before .check2 .given .1)
 
 read-limits-requires : tie.Need-read-limits-requires
 read-limits-requires c κs = let s = size (c .before .before .before .before) in (omega arith, sym (c .before .before .check .ensures) ∙ c .enum-told .given .1)
 
 returns-3 : tie.Need-returns-3
-returns-3 c = c .read-limits .ensures ∙ read-rest _ (size (c .before .before .before .before .before)) _ (c .before .before .before .before .get-trailer .ensures) (sym (c .before .before .before .check .ensures) ∙ c .before .enum-told .given .1)
+returns-3 c =
+    let d = c .before .before .before .before in
+    c .read-limits .ensures ∙ read-rest _ (size (d .before)) _ (d .get-trailer .ensures) (sym (c .before .before .before .check .ensures) ∙ c .before .enum-told .given .1)
 
 pub read-spec : {M : Type 1} → statement M
 read-spec =
     tie.close
     (tie.spec
-    length-within-requires
-    refused-requires
+    (λ c κs. search needs)
+    (λ c κs. search needs)
     returns
     sub-at
     get-trailer-requires
-    check-requires
-    enum-known-check
-    refused-requires-2
+    (λ c κs. search needs)
+    (λ c. search needs)
+    (λ c κs. search needs)
     returns-2
-    enum-told
+    (λ c. search needs)
     read-limits-requires
     returns-3)

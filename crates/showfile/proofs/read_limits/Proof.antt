@@ -38,12 +38,6 @@ get-show-requires c κs =
     let d = f .distances in
     omega arith
 
-check-requires : tie.Need-check-requires
-check-requires c κs = search needs
-
-answer-requires : tie.Need-answer-requires
-answer-requires c κs = search needs
-
 returns : tie.Need-returns
 unfolding showFrom
 returns c = limits-answered _ _ (c .answer .ensures) (c .before .check .ensures) (c .before .before .get-show .ensures) (framed (c .before .before .before .before .before) .counts)
@@ -51,4 +45,4 @@ returns c = limits-answered _ _ (c .answer .ensures) (c .before .check .ensures)
 pub read-limits-spec : {M : Type 1} → statement M
 read-limits-spec =
     tie.close
-    (tie.spec add-note mul-note sub-note get-show-requires check-requires answer-requires returns)
+    (tie.spec add-note mul-note sub-note get-show-requires (λ c κs. search needs) (λ c κs. search needs) returns)

@@ -34,10 +34,9 @@ within c = check-within _ (sym (c .before .before .check .ensures) ∙ c .enum-t
 size : (c : tie.After-enum-told) →
     length (fileOf (c .before .before .before .before .before .before .before .args .show) (c .before .before .before .before .before .before .before .args .note .now))
     ≡ length (c .before .before .before .before .before .before .before .args .note .now) + 16 * (c .before .before .before .before .before .before .before .args .show .laid + c .before .before .before .before .before .before .before .args .show .playing) + 20
-size c = shown-length _ _ (layouts-eight (c .before .before .before .before .before .before .before)) (sessions-sixteen (c .before .before .before .before .before .before .before)) (within c .counts)
-
-counts-within-requires : tie.Need-counts-within-requires
-counts-within-requires c κs = search needs
+size c =
+    let d = c .before .before .before .before .before .before .before in
+    shown-length _ _ (layouts-eight (d)) (sessions-sixteen (d)) (within c .counts)
 
 returns : tie.Need-returns
 returns c = write-counts _ _ _ (tells-no _ (c .before .counts-within .result) (not-true _ (c .if1 .taken)) (c .before .counts-within .ensures))
@@ -45,17 +44,10 @@ returns c = write-counts _ _ _ (tells-no _ (c .before .counts-within .result) (n
 returns-2 : tie.Need-returns-2
 returns-2 c = write-note _ _ _ (counts (c .before)) (λ h. omega arith)
 
-check-requires : tie.Need-check-requires
-check-requires c κs = search needs
-
-enum-known-check : tie.Need-enum-known-check
-enum-known-check c = search needs
-
 returns-3 : tie.Need-returns-3
-returns-3 c = write-limits _ _ _ (counts (c .before .before .before .before .before)) (short (c .before .before .before .before)) (sym (c .before .before .before .check .ensures) ∙ c .before .check2 .given .1)
-
-enum-told : tie.Need-enum-told
-enum-told c = search needs
+returns-3 c =
+    let d = c .before .before .before .before in
+    write-limits _ _ _ (counts (d .before)) (short (d)) (sym (c .before .before .before .check .ensures) ∙ c .before .check2 .given .1)
 
 add-if3 : tie.Need-add-if3
 add-if3 c =
@@ -95,13 +87,13 @@ pub check-write-spec : {M : Type 1} → statement M
 check-write-spec =
     tie.close
     (tie.spec
-    counts-within-requires
+    (λ c κs. search needs)
     returns
     returns-2
-    check-requires
-    enum-known-check
+    (λ c κs. search needs)
+    (λ c. search needs)
     returns-3
-    enum-told
+    (λ c. search needs)
     add-if3
     mul-if3
     add-if3-2

@@ -75,9 +75,6 @@ put-trailer-requires c κs = let f = fits (c .before .before .before .before .be
 add-result : tie.Need-add-result
 add-result c = let f = fits (c .before .before .before .before .before .before .before .before .before .before .before .before .before .before .before .before .before .before .before .before .before .before .before) in omega arith
 
-same-length : tie.Need-same-length
-same-length c = search needs
-
 returns : tie.Need-returns
 returns c =
     let s = c .before .before .before .before .before .before .before .before .before .before .before .before .before .before .before .before .before .before .before .before .before .before .before in
@@ -105,5 +102,5 @@ put-file-spec =
     trailer-of-requires
     put-trailer-requires
     add-result
-    same-length
+    (λ c. search needs)
     returns)

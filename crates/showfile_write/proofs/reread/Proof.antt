@@ -14,25 +14,10 @@ layouts-eight c = search (unmapped, needs)
 sessions-sixteen : (c : tie.Start) → length (c .args .show .sessions) ≡ 16
 sessions-sixteen c = search (unmapped, needs)
 
-write-requires : tie.Need-write-requires
-write-requires c κs = search needs
-
-enum-known-check : tie.Need-enum-known-check
-enum-known-check c = search needs
-
-refused-requires : tie.Need-refused-requires
-refused-requires c κs = search needs
-
-same-length : tie.Need-same-length
-same-length c = search needs
-
 returns : tie.Need-returns
 returns c =
     let w = c .before .before .before .before .before .before .write .ensures in
     (c .refused .ensures ∙ reread-refused _ _ _ (w .0) (w .1) (c .before .before .check .given .1), w .1)
-
-enum-told : tie.Need-enum-told
-enum-told c = search needs
 
 slice-reshare-prefix-read : tie.Need-slice-reshare-prefix-read
 slice-reshare-prefix-read c =
@@ -44,12 +29,6 @@ slice-aggregate-read c =
     let w = c .before .before .before .before .before .write .ensures in
     sym (length-take-le _ _ (reread-inside _ _ _ (w .0) (w .1) (c .before .enum-told .given .1)))
 
-read-requires : tie.Need-read-requires
-read-requires c κs = search needs
-
-same-length-2 : tie.Need-same-length-2
-same-length-2 c = search needs
-
 returns-2 : tie.Need-returns-2
 returns-2 c =
     let w = c .before .before .before .before .before .before .write .ensures in
@@ -59,14 +38,14 @@ pub reread-spec : {M : Type 1} → statement M
 reread-spec =
     tie.close
     (tie.spec
-    write-requires
-    enum-known-check
-    refused-requires
-    same-length
+    (λ c κs. search needs)
+    (λ c. search needs)
+    (λ c κs. search needs)
+    (λ c. search needs)
     returns
-    enum-told
+    (λ c. search needs)
     slice-reshare-prefix-read
     slice-aggregate-read
-    read-requires
-    same-length-2
+    (λ c κs. search needs)
+    (λ c. search needs)
     returns-2)

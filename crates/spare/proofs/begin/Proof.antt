@@ -32,7 +32,9 @@ returns : tie.Need-returns
 returns c = begin-negative (c .before .before .before .args .run) (test-less (rw (slack-is (c .before)) at (c .if1 .taken)))
 
 cycling-requires : tie.Need-cycling-requires
-cycling-requires c κs = (c .before .before .before .before .pre .0, (c .before .before .before .before .pre .1, ap (λ (t : Standing). t .places) (c .before .before .before .survey .ensures)))
+cycling-requires c κs =
+    let d = c .before .before .before .before in
+    (d .pre .0, (d .pre .1, ap (λ (t : Standing). t .places) (c .before .before .before .survey .ensures)))
 
 returns-2 : tie.Need-returns-2
 returns-2 c = begin-granted (c .before .before .before .before .before .args .run) _ (test-not (rw (slack-is (c .before .before .before)) at (c .before .before .if1 .left))) (c .cycling .ensures)

@@ -34,12 +34,6 @@ first-few c =
 ordered-requires : tie.Need-ordered-requires
 ordered-requires c κs = ((c .before .pre .0 .within .counts .sessions), subst (λ (l : List ℕ). PlacedBelow l (playing (c .before .args .t1))) (sym (c .before .pre .1 .1)) (placed-below (c .before .args .t1)))
 
-array-read-first : tie.Need-array-read-first
-array-read-first c = search needs
-
-cast-first : tie.Need-cast-first
-cast-first c = search needs
-
 mul-next : tie.Need-mul-next
 mul-next c = let l = first-few c in omega arith
 
@@ -52,4 +46,4 @@ returns c = cycling-is _ _ (order-is (c .before))
 pub cycling-spec : {M : Type 1} → statement M
 cycling-spec =
     tie.close
-    (tie.spec ordered-requires array-read-first cast-first mul-next element-copy-out-next returns)
+    (tie.spec ordered-requires (λ c. search needs) (λ c. search needs) mul-next element-copy-out-next returns)

@@ -14,15 +14,6 @@ use Rattle.spare.proofs.workahead.Statement.{statement}
 sound : (c : tie.After-enum-told) → SoundRun (c .before .before .before .args .t1)
 sound c = tested-sound _ _ (c .before .before .test-run .ensures) (c .enum-told .given .1)
 
-test-run-requires : tie.Need-test-run-requires
-test-run-requires c κs = search needs
-
-enum-told : tie.Need-enum-told
-enum-told c = search needs
-
-enum-told-2 : tie.Need-enum-told-2
-enum-told-2 c = search needs
-
 returns : tie.Need-returns
 returns c = workahead-damaged _ _ (tested-damaged _ _ (c .before .before .test-run .ensures) (c .enum-told2 .given .1))
 
@@ -53,9 +44,9 @@ pub workahead-spec : {M : Type 1} → statement M
 workahead-spec =
     tie.close
     (tie.spec
-    test-run-requires
-    enum-told
-    enum-told-2
+    (λ c κs. search needs)
+    (λ c. search needs)
+    (λ c. search needs)
     returns
     returns-2
     mul-ahead

@@ -30,12 +30,6 @@ room c =
     let w = c .before .before .width .ensures in
     record { fits = omega (arith, three-length (a .before .now) (decimal (a .n)) (a .after .now)) }
 
-width-requires : tie.Need-width-requires
-width-requires c κs = search needs
-
-fits-requires : tie.Need-fits-requires
-fits-requires c κs = search needs
-
 returns : tie.Need-returns
 returns c =
     let a = c .before .before .before .before .before .before .args in
@@ -44,11 +38,15 @@ returns c =
     no-room _ _ _ (λ h. f (omega (arith, h, three-length (a .before .now) (decimal (a .n)) (a .after .now))))
 
 put-bytes-requires : tie.Need-put-bytes-requires
-put-bytes-requires c κs = room-first (front (c .before .before .before .before .before .before .before)) (rest (c .before .before .before .before .before .before .before)) (room (c .before))
+put-bytes-requires c κs =
+    let d = c .before .before .before .before .before .before .before in
+    room-first (front (d)) (rest (d)) (room (c .before))
 
 -- the room behind what stands before
 room-number : (c : tie.After-put-bytes) → FitsAt (c .put-bytes .last .0) (c .put-bytes .result) (rest (c .before .before .before .before .before .before .before .before))
-room-number c = room-then (front (c .before .before .before .before .before .before .before .before)) (rest (c .before .before .before .before .before .before .before .before)) (room (c .before .before)) (c .put-bytes .ensures) (c .put-bytes .kept .0)
+room-number c =
+    let d = c .before .before .before .before .before .before .before .before in
+    room-then (front (d)) (rest (d)) (room (c .before .before)) (c .put-bytes .ensures) (c .put-bytes .kept .0)
 
 put-decimal-requires : tie.Need-put-decimal-requires
 put-decimal-requires c κs =
@@ -59,9 +57,6 @@ put-bytes-requires-2 : tie.Need-put-bytes-requires-2
 put-bytes-requires-2 c κs =
     let a = c .before .before .before .before .before .before .before .before .before .before .before .before .before .before .before .args in
     room-then (decimal (a .n)) (a .after .now) (room-number (c .before .before .before .before .before .before .before)) (c .before .before .before .put-decimal .ensures) (c .before .before .before .put-decimal .kept .0)
-
-same-length : tie.Need-same-length
-same-length c = search needs
 
 returns-2 : tie.Need-returns-2
 returns-2 c =
@@ -74,11 +69,11 @@ pub put-numbered-spec : {M : Type 1} → statement M
 put-numbered-spec =
     tie.close
     (tie.spec
-    width-requires
-    fits-requires
+    (λ c κs. search needs)
+    (λ c κs. search needs)
     returns
     put-bytes-requires
     put-decimal-requires
     put-bytes-requires-2
-    same-length
+    (λ c. search needs)
     returns-2)

@@ -31,11 +31,10 @@ mul-session c = let h = c .before .before .before .before .pre .0 .counts .sessi
 element-copy-out-session : tie.Need-element-copy-out-session Inv-loop μ-loop
 element-copy-out-session c = let h = c .before .before .before .before .pre .0 .counts .sessions in let l = c .loop-test .taken in omega arith
 
-cast-at : tie.Need-cast-at Inv-loop μ-loop
-cast-at c = search needs
-
 need-requires : tie.Need-need-requires Inv-loop μ-loop
-need-requires c κs = (c .before .before .before .before .before .before .pre .0 .sessions _ (c .before .before .loop-test .taken) .rate .high, span-short _ _ _ (c .before .before .before .before .before .before .pre .0 .drive .block) (let s = c .before .before .before .before .before .before .pre .1 .small in omega arith) (c .before .before .before .before .split .ensures))
+need-requires c κs =
+    let d = c .before .before .before .before in
+    (d .before .before .pre .0 .sessions _ (c .before .before .loop-test .taken) .rate .high, span-short _ _ _ (d .before .before .pre .0 .drive .block) (let s = d .before .before .pre .1 .small in omega arith) (d .split .ensures))
 
 mul-takes : tie.Need-mul-takes Inv-loop μ-loop
 mul-takes c = let h = laid-below _ (c .before .before .before .before .before .before .before .pre .0) _ (c .before .before .before .loop-test .taken) in omega arith
@@ -44,7 +43,10 @@ element-copy-out-takes : tie.Need-element-copy-out-takes Inv-loop μ-loop
 element-copy-out-takes c = let h = laid-below _ (c .before .before .before .before .before .before .before .pre .0) _ (c .before .before .before .loop-test .taken) in omega arith
 
 cast-takes : tie.Need-cast-takes Inv-loop μ-loop
-cast-takes c = let e = c .before .need .ensures in let f = asked-few _ (c .before .before .before .before .before .before .before .before .pre .0) _ _ _ (c .before .before .before .before .before .before .split .ensures) (c .before .before .before .before .loop-test .taken) (c .before .before .before .before .before .before .before .before .pre .1 .fits) in omega (arith, e, f)
+cast-takes c =
+    let d = c .before .before .before .before in
+    let s = d .before .before .before .before in
+    let e = c .before .need .ensures in let f = asked-few _ (s .pre .0) _ _ _ (d .before .before .split .ensures) (d .loop-test .taken) (s .pre .1 .fits) in omega (arith, e, f)
 
 takes-requires : tie.Need-takes-requires Inv-loop μ-loop
 takes-requires c κs =
@@ -52,31 +54,43 @@ takes-requires c κs =
     (layout-within _ w _ (c .before .before .before .before .loop-test .taken), w .drive .cylinder .low)
 
 cast-counts : tie.Need-cast-counts Inv-loop μ-loop
-cast-counts c = let e = c .before .before .need .ensures in let f = asked-few _ (c .before .before .before .before .before .before .before .before .before .pre .0) _ _ _ (c .before .before .before .before .before .before .before .split .ensures) (c .before .before .before .before .before .loop-test .taken) (c .before .before .before .before .before .before .before .before .before .pre .1 .fits) in omega (arith, e, f)
+cast-counts c =
+    let d = c .before .before .before .before .before in
+    let s = d .before .before .before .before in
+    let e = c .before .before .need .ensures in let f = asked-few _ (s .pre .0) _ _ _ (d .before .before .split .ensures) (d .loop-test .taken) (s .pre .1 .fits) in omega (arith, e, f)
 
 mul-counts : tie.Need-mul-counts Inv-loop μ-loop
-mul-counts c = let h = c .before .before .before .before .before .before .before .before .before .pre .0 .counts .sessions in let l = c .before .before .before .before .before .loop-test .taken in omega arith
+mul-counts c =
+    let d = c .before .before .before .before .before in
+    let h = d .before .before .before .before .pre .0 .counts .sessions in let l = d .loop-test .taken in omega arith
 
 array-write-counts : tie.Need-array-write-counts Inv-loop μ-loop
-array-write-counts c = let h = c .before .before .before .before .before .before .before .before .before .pre .0 .counts .sessions in let l = c .before .before .before .before .before .loop-test .taken in omega arith
+array-write-counts c =
+    let d = c .before .before .before .before .before in
+    let h = d .before .before .before .before .pre .0 .counts .sessions in let l = d .loop-test .taken in omega arith
 
 mul-times : tie.Need-mul-times Inv-loop μ-loop
-mul-times c = let h = c .before .before .before .before .before .before .before .before .before .pre .0 .counts .sessions in let l = c .before .before .before .before .before .loop-test .taken in omega arith
+mul-times c =
+    let d = c .before .before .before .before .before in
+    let h = d .before .before .before .before .pre .0 .counts .sessions in let l = d .loop-test .taken in omega arith
 
 array-write-times : tie.Need-array-write-times Inv-loop μ-loop
-array-write-times c = let h = c .before .before .before .before .before .before .before .before .before .pre .0 .counts .sessions in let l = c .before .before .before .before .before .loop-test .taken in omega arith
+array-write-times c =
+    let d = c .before .before .before .before .before in
+    let h = d .before .before .before .before .pre .0 .counts .sessions in let l = d .loop-test .taken in omega arith
 
 add-round : tie.Need-add-round Inv-loop μ-loop
-add-round c = let a = c .before .before .before .before .before .before .loop .inv .1 .small in let u = c .takes .ensures .1 in let l = c .before .before .before .before .before .loop-test .taken in let n = c .before .before .before .before .before .before .before .before .before .pre .0 .counts .sessions in omega arith
-
-add-i : tie.Need-add-i Inv-loop μ-loop
-add-i c = search needs
+add-round c =
+    let d = c .before .before .before .before .before in
+    let a = d .before .loop .inv .1 .small in let u = c .takes .ensures .1 in let l = d .loop-test .taken in let n = d .before .before .before .before .pre .0 .counts .sessions in omega arith
 
 loop-less : tie.Need-loop-less Inv-loop μ-loop
 loop-less c = let l = c .before .before .before .before .before .loop-test .taken in omega arith
 
 loop-again : tie.Need-loop-again Inv-loop μ-loop
-loop-again c = let w = c .before .before .before .before .before .before .before .before .before .pre .0 in let l = c .before .before .before .before .before .loop-test .taken in let e = c .before .before .need .ensures ∙ asked-same _ w _ _ _ (c .before .before .before .before .before .before .before .split .ensures) in (row-body _ _ _ _ _ w (c .before .before .before .before .before .before .loop .inv .0) l e, times-body _ _ _ _ _ _ w (c .before .before .before .before .before .before .loop .inv .1) l (c .takes .ensures .0 ∙ time-same _ _ _ ∙ ap (loadOf _ .stream _ .time) e) (c .takes .ensures .1))
+loop-again c =
+    let d = c .before .before .before .before .before in
+    let w = d .before .before .before .before .pre .0 in let l = d .loop-test .taken in let e = c .before .before .need .ensures ∙ asked-same _ w _ _ _ (d .before .before .split .ensures) in (row-body _ _ _ _ _ w (d .before .loop .inv .0) l e, times-body _ _ _ _ _ _ w (d .before .loop .inv .1) l (c .takes .ensures .0 ∙ time-same _ _ _ ∙ ap (loadOf _ .stream _ .time) e) (c .takes .ensures .1))
 
 returns : tie.Need-returns Inv-loop μ-loop
 returns c = let w = c .before .before .before .before .pre .0 in let r = times-ended _ _ _ _ _ w (c .before .loop .inv .1) (c .loop-test .left) in let m = row-ended _ _ _ _ (c .before .loop .inv .0) (c .loop-test .left) in (λ j. record { verdict = verdict.Accepted; round = r .0 j; counts = m j; times = r .1 j })
@@ -91,7 +105,7 @@ accepted-spec =
     loop-holds
     mul-session
     element-copy-out-session
-    cast-at
+    (λ c. search needs)
     need-requires
     mul-takes
     element-copy-out-takes
@@ -103,7 +117,7 @@ accepted-spec =
     mul-times
     array-write-times
     add-round
-    add-i
+    (λ c. search needs)
     loop-less
     loop-again
     returns)

@@ -10,36 +10,15 @@ use Rattle.verdict.specs.Steps.{Settled, SettledAs}
 use Rattle.verdict.proofs.decide.Statement.{statement}
 use Rattle.verdict.proofs.decide.Tie as tie
 
-check-requires : tie.Need-check-requires
-check-requires c κs = search needs
-
-enum-known-check : tie.Need-enum-known-check
-enum-known-check c = search needs
-
-refused-requires : tie.Need-refused-requires
-refused-requires c κs = search needs
-
 returns : tie.Need-returns
 returns c =
     subst (DecisionIs _) (sym (c .refused .ensures)) (outside _ (sym (c .before .before .before .before .check .ensures) ∙ c .before .before .check2 .given .1))
-
-enum-told : tie.Need-enum-told
-enum-told c = search needs
 
 within : (c : tie.After-enum-told) → ShowWithin (c .before .before .before .args .show)
 within c = check-within _ (sym (c .before .before .check .ensures) ∙ c .enum-told .given .1)
 
 settle-requires : tie.Need-settle-requires
 settle-requires c κs = within c
-
-enum-known-settled : tie.Need-enum-known-settled
-enum-known-settled c = search needs
-
-enum-told-2 : tie.Need-enum-told-2
-enum-told-2 c = search needs
-
-refused-requires-2 : tie.Need-refused-requires-2
-refused-requires-2 c κs = search needs
 
 returns-2 : tie.Need-returns-2
 returns-2 c =
@@ -63,15 +42,15 @@ pub decide-spec : {M : Type 1} → statement M
 decide-spec =
     tie.close
     (tie.spec
-    check-requires
-    enum-known-check
-    refused-requires
+    (λ c κs. search needs)
+    (λ c. search needs)
+    (λ c κs. search needs)
     returns
-    enum-told
+    (λ c. search needs)
     settle-requires
-    enum-known-settled
-    enum-told-2
-    refused-requires-2
+    (λ c. search needs)
+    (λ c. search needs)
+    (λ c κs. search needs)
     returns-2
     accepted-requires
     returns-3)

@@ -30,17 +30,8 @@ Inv-loop2 show counts drive round times i span k₀ k = HeldTo show span (setOf 
 abbrev μ-loop2 : tie.MeasureT-loop2
 μ-loop2 show counts drive round times i span k₀ k = show .playing - k
 
-check-requires : tie.Need-check-requires Inv-loop μ-loop Inv-loop2 μ-loop2
-check-requires c κs = search needs
-
-enum-known-check : tie.Need-enum-known-check Inv-loop μ-loop Inv-loop2 μ-loop2
-enum-known-check c = search needs
-
 returns : tie.Need-returns Inv-loop μ-loop Inv-loop2 μ-loop2
 returns c = untried _ (sym (c .before .before .before .check .ensures) ∙ c .before .check2 .given .1)
-
-enum-told : tie.Need-enum-told Inv-loop μ-loop Inv-loop2 μ-loop2
-enum-told c = search needs
 
 within : (c : tie.After-enum-told Inv-loop μ-loop Inv-loop2 μ-loop2) → ShowWithin (c .before .before .before .args .t1)
 within c = check-within _ (sym (c .before .before .check .ensures) ∙ c .enum-told .given .1)
@@ -53,9 +44,6 @@ mul-session c = let h = within (c .before .before .before) .counts .sessions in 
 
 element-copy-out-session : tie.Need-element-copy-out-session Inv-loop μ-loop Inv-loop2 μ-loop2
 element-copy-out-session c = let h = within (c .before .before .before) .counts .sessions in let l = c .loop-test .taken in omega arith
-
-cast-at : tie.Need-cast-at Inv-loop μ-loop Inv-loop2 μ-loop2
-cast-at c = search needs
 
 mul-takes : tie.Need-mul-takes Inv-loop μ-loop Inv-loop2 μ-loop2
 mul-takes c = let h = laid-below _ (within (c .before .before .before .before .before)) _ (c .before .before .loop-test .taken) in omega arith
@@ -75,10 +63,14 @@ takes-requires c κs =
     (layout-within _ w _ (c .before .before .before .loop-test .taken), w .drive .cylinder .low)
 
 mul-times : tie.Need-mul-times Inv-loop μ-loop Inv-loop2 μ-loop2
-mul-times c = let h = within (c .before .before .before .before .before .before .before) .counts .sessions in let l = c .before .before .before .before .loop-test .taken in omega arith
+mul-times c =
+    let d = c .before .before .before .before in
+    let h = within (d .before .before .before) .counts .sessions in let l = d .loop-test .taken in omega arith
 
 array-write-times : tie.Need-array-write-times Inv-loop μ-loop Inv-loop2 μ-loop2
-array-write-times c = let h = within (c .before .before .before .before .before .before .before) .counts .sessions in let l = c .before .before .before .before .loop-test .taken in omega arith
+array-write-times c =
+    let d = c .before .before .before .before in
+    let h = within (d .before .before .before) .counts .sessions in let l = d .loop-test .taken in omega arith
 
 add-round : tie.Need-add-round Inv-loop μ-loop Inv-loop2 μ-loop2
 add-round c =
@@ -87,9 +79,6 @@ add-round c =
     let l = c .before .before .before .before .loop-test .taken in
     let n = within (c .before .before .before .before .before .before .before) .counts .sessions in
     omega arith
-
-add-i : tie.Need-add-i Inv-loop μ-loop Inv-loop2 μ-loop2
-add-i c = search needs
 
 loop-less : tie.Need-loop-less Inv-loop μ-loop Inv-loop2 μ-loop2
 loop-less c = let l = c .before .before .before .before .loop-test .taken in omega arith
@@ -131,9 +120,6 @@ returns-2 c =
     trial-fails _ (within (c .before .before .before .before .before .before .before .before .before)) _ _ _ (r .0) (r .1)
     (held-broken _ _ _ _ (c .before .before .before .before .before .split .ensures) _ (c .before .before .before .loop2-test .taken) (tells-no _ (c .before .held .result) (not-true _ (c .if1 .taken)) (c .before .held .ensures)))
 
-add-k : tie.Need-add-k Inv-loop μ-loop Inv-loop2 μ-loop2
-add-k c = search needs
-
 loop2-less : tie.Need-loop2-less Inv-loop μ-loop Inv-loop2 μ-loop2
 loop2-less c = let l = c .before .before .before .loop2-test .taken in omega arith
 
@@ -155,14 +141,14 @@ tried-spec =
     μ-loop
     Inv-loop2
     μ-loop2
-    check-requires
-    enum-known-check
+    (λ c κs. search needs)
+    (λ c. search needs)
     returns
-    enum-told
+    (λ c. search needs)
     loop-holds
     mul-session
     element-copy-out-session
-    cast-at
+    (λ c. search needs)
     mul-takes
     element-copy-out-takes
     mul-takes-2
@@ -171,7 +157,7 @@ tried-spec =
     mul-times
     array-write-times
     add-round
-    add-i
+    (λ c. search needs)
     loop-less
     loop-again
     split-requires
@@ -182,7 +168,7 @@ tried-spec =
     array-read-held
     held-requires
     returns-2
-    add-k
+    (λ c. search needs)
     loop2-less
     loop2-again
     returns-3)

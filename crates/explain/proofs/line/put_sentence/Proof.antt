@@ -44,160 +44,91 @@ plain NothingUnderway k = refl
 plain AlreadyStarted k = refl
 plain Damaged k = refl
 
-enum-told : tie.Need-enum-told
-enum-told c = search needs
-
-slice-aggregate-put-word : tie.Need-slice-aggregate-put-word
-slice-aggregate-put-word c = search needs
-
-put-word-requires : tie.Need-put-word-requires
-put-word-requires c κs = search needs
-
-enum-told-2 : tie.Need-enum-told-2
-enum-told-2 c = search needs
-
-slice-aggregate-put-word-2 : tie.Need-slice-aggregate-put-word-2
-slice-aggregate-put-word-2 c = search needs
-
-put-word-requires-2 : tie.Need-put-word-requires-2
-put-word-requires-2 c κs = search needs
-
-enum-told-3 : tie.Need-enum-told-3
-enum-told-3 c = search needs
-
-slice-aggregate-put-word-3 : tie.Need-slice-aggregate-put-word-3
-slice-aggregate-put-word-3 c = search needs
-
-put-word-requires-3 : tie.Need-put-word-requires-3
-put-word-requires-3 c κs = search needs
-
-enum-told-4 : tie.Need-enum-told-4
-enum-told-4 c = search needs
-
-slice-aggregate-put-word-4 : tie.Need-slice-aggregate-put-word-4
-slice-aggregate-put-word-4 c = search needs
-
-put-word-requires-4 : tie.Need-put-word-requires-4
-put-word-requires-4 c κs = search needs
-
-enum-told-5 : tie.Need-enum-told-5
-enum-told-5 c = search needs
-
-slice-aggregate-put-word-5 : tie.Need-slice-aggregate-put-word-5
-slice-aggregate-put-word-5 c = search needs
-
-put-word-requires-5 : tie.Need-put-word-requires-5
-put-word-requires-5 c κs = search needs
-
-enum-known-why : tie.Need-enum-known-why
-enum-known-why c = search needs
-
 put-layout-requires : tie.Need-put-layout-requires
 put-layout-requires c κs = room-as (ap sentence (c .before .before .why .given .1)) (c .before .before .before .before .before .pre)
-
-enum-known-why-2 : tie.Need-enum-known-why-2
-enum-known-why-2 c = search needs
 
 put-clip-requires : tie.Need-put-clip-requires
 put-clip-requires c κs = room-as (ap sentence (c .before .before .why2 .given .1)) (c .before .before .before .before .before .pre)
 
-slice-aggregate-put-word-6 : tie.Need-slice-aggregate-put-word-6
-slice-aggregate-put-word-6 c = search needs
-
-put-word-requires-6 : tie.Need-put-word-requires-6
-put-word-requires-6 c κs = search needs
-
-same-length : tie.Need-same-length
-same-length c = search needs
-
 returns : tie.Need-returns
 unfolding sentence
-returns c = said (ap sentence (c .before .before .before .before .before .enum-told .given .1)) (c .before .before .before .before .before .before .before .before .pre) (c .before .before .put-word .ensures)
-
-same-length-2 : tie.Need-same-length-2
-same-length-2 c = search needs
+returns c =
+    let d = c .before .before .before .before .before in
+    said (ap sentence (d .enum-told .given .1)) (d .before .before .before .pre) (c .before .before .put-word .ensures)
 
 returns-2 : tie.Need-returns-2
 unfolding sentence
-returns-2 c = said (ap sentence (c .before .before .before .before .before .enum-told2 .given .1)) (c .before .before .before .before .before .before .before .before .pre) (c .before .before .put-word2 .ensures)
-
-same-length-3 : tie.Need-same-length-3
-same-length-3 c = search needs
+returns-2 c =
+    let d = c .before .before .before .before .before in
+    said (ap sentence (d .enum-told2 .given .1)) (d .before .before .before .pre) (c .before .before .put-word2 .ensures)
 
 returns-3 : tie.Need-returns-3
 unfolding sentence
-returns-3 c = said (ap sentence (c .before .before .before .before .before .enum-told3 .given .1)) (c .before .before .before .before .before .before .before .before .pre) (c .before .before .put-word3 .ensures)
-
-same-length-4 : tie.Need-same-length-4
-same-length-4 c = search needs
+returns-3 c =
+    let d = c .before .before .before .before .before in
+    said (ap sentence (d .enum-told3 .given .1)) (d .before .before .before .pre) (c .before .before .put-word3 .ensures)
 
 returns-4 : tie.Need-returns-4
 unfolding sentence
-returns-4 c = said (ap sentence (c .before .before .before .before .before .enum-told4 .given .1)) (c .before .before .before .before .before .before .before .before .pre) (c .before .before .put-word4 .ensures)
-
-same-length-5 : tie.Need-same-length-5
-same-length-5 c = search needs
+returns-4 c =
+    let d = c .before .before .before .before .before in
+    said (ap sentence (d .enum-told4 .given .1)) (d .before .before .before .pre) (c .before .before .put-word4 .ensures)
 
 returns-5 : tie.Need-returns-5
 unfolding sentence
-returns-5 c = said (ap sentence (c .before .before .before .before .before .enum-told5 .given .1)) (c .before .before .before .before .before .before .before .before .pre) (c .before .before .put-word5 .ensures)
-
-same-length-6 : tie.Need-same-length-6
-same-length-6 c = search needs
+returns-5 c =
+    let d = c .before .before .before .before .before in
+    said (ap sentence (d .enum-told5 .given .1)) (d .before .before .before .pre) (c .before .before .put-word5 .ensures)
 
 returns-6 : tie.Need-returns-6
 returns-6 c = put-as (sym (ap sentence (c .before .before .before .before .before .why .given .1))) (c .before .before .put-layout .ensures)
 
-same-length-7 : tie.Need-same-length-7
-same-length-7 c = search needs
-
 returns-7 : tie.Need-returns-7
 returns-7 c = put-as (sym (ap sentence (c .before .before .before .before .before .why2 .given .1))) (c .before .before .put-clip .ensures)
 
-same-length-8 : tie.Need-same-length-8
-same-length-8 c = search needs
-
 returns-8 : tie.Need-returns-8
-returns-8 c = said (plain _ (c .before .before .before .before .before .match .keys8)) (c .before .before .before .before .before .before .before .pre) (c .before .before .put-word6 .ensures)
+returns-8 c =
+    let d = c .before .before .before .before .before in
+    said (plain _ (d .match .keys8)) (d .before .before .pre) (c .before .before .put-word6 .ensures)
 
 pub put-sentence-spec : {M : Type 1} → statement M
 put-sentence-spec =
     tie.close
     (tie.spec
-    enum-told
-    slice-aggregate-put-word
-    put-word-requires
-    enum-told-2
-    slice-aggregate-put-word-2
-    put-word-requires-2
-    enum-told-3
-    slice-aggregate-put-word-3
-    put-word-requires-3
-    enum-told-4
-    slice-aggregate-put-word-4
-    put-word-requires-4
-    enum-told-5
-    slice-aggregate-put-word-5
-    put-word-requires-5
-    enum-known-why
+    (λ c. search needs)
+    (λ c. search needs)
+    (λ c κs. search needs)
+    (λ c. search needs)
+    (λ c. search needs)
+    (λ c κs. search needs)
+    (λ c. search needs)
+    (λ c. search needs)
+    (λ c κs. search needs)
+    (λ c. search needs)
+    (λ c. search needs)
+    (λ c κs. search needs)
+    (λ c. search needs)
+    (λ c. search needs)
+    (λ c κs. search needs)
+    (λ c. search needs)
     put-layout-requires
-    enum-known-why-2
+    (λ c. search needs)
     put-clip-requires
-    slice-aggregate-put-word-6
-    put-word-requires-6
-    same-length
+    (λ c. search needs)
+    (λ c κs. search needs)
+    (λ c. search needs)
     returns
-    same-length-2
+    (λ c. search needs)
     returns-2
-    same-length-3
+    (λ c. search needs)
     returns-3
-    same-length-4
+    (λ c. search needs)
     returns-4
-    same-length-5
+    (λ c. search needs)
     returns-5
-    same-length-6
+    (λ c. search needs)
     returns-6
-    same-length-7
+    (λ c. search needs)
     returns-7
-    same-length-8
+    (λ c. search needs)
     returns-8)

@@ -13,49 +13,19 @@ Inv-loop file₀ turns low sum₀ k₀ file sum k = (k ≤ turns) × (length fil
 abbrev μ-loop : tie.MeasureT-loop
 μ-loop file₀ turns low sum₀ k₀ file sum k = turns - k
 
-low-of-requires : tie.Need-low-of-requires Inv-loop μ-loop
-low-of-requires c κs = search needs
-
-loop-holds : tie.Need-loop-holds Inv-loop μ-loop
-loop-holds c = search needs
-
-change-requires : tie.Need-change-requires Inv-loop μ-loop
-change-requires c κs = search needs
-
-report-requires : tie.Need-report-requires Inv-loop μ-loop
-report-requires c κs = search needs
-
-two-requires : tie.Need-two-requires Inv-loop μ-loop
-two-requires c κs = search needs
-
-add-k : tie.Need-add-k Inv-loop μ-loop
-add-k c = search needs
-
-loop-less : tie.Need-loop-less Inv-loop μ-loop
-loop-less c = search needs
-
-loop-again : tie.Need-loop-again Inv-loop μ-loop
-loop-again c = search needs
-
-same-length : tie.Need-same-length Inv-loop μ-loop
-same-length c = search needs
-
-returns : tie.Need-returns Inv-loop μ-loop
-returns c = search needs
-
 pub reports-spec : {M : Type 1} → statement M
 reports-spec =
     tie.close
     (tie.spec
     Inv-loop
     μ-loop
-    low-of-requires
-    loop-holds
-    change-requires
-    report-requires
-    two-requires
-    add-k
-    loop-less
-    loop-again
-    same-length
-    returns)
+    (λ c κs. search needs)
+    (λ c. search needs)
+    (λ c κs. search needs)
+    (λ c κs. search needs)
+    (λ c κs. search needs)
+    (λ c. search needs)
+    (λ c. search needs)
+    (λ c. search needs)
+    (λ c. search needs)
+    (λ c. search needs))

@@ -11,41 +11,17 @@ Inv-loop next₀ blocks i₀ next i = i ≤ blocks
 abbrev μ-loop : tie.MeasureT-loop
 μ-loop next₀ blocks i₀ next i = blocks - i
 
-mul-blocks : tie.Need-mul-blocks Inv-loop μ-loop
-mul-blocks c = search needs
-
-loop-holds : tie.Need-loop-holds Inv-loop μ-loop
-loop-holds c = search needs
-
-filled-requires : tie.Need-filled-requires Inv-loop μ-loop
-filled-requires c κs = search needs
-
-add-i : tie.Need-add-i Inv-loop μ-loop
-add-i c = search needs
-
-loop-less : tie.Need-loop-less Inv-loop μ-loop
-loop-less c = search needs
-
-loop-again : tie.Need-loop-again Inv-loop μ-loop
-loop-again c = search needs
-
-start-requires : tie.Need-start-requires Inv-loop μ-loop
-start-requires c κs = search needs
-
-returns : tie.Need-returns Inv-loop μ-loop
-returns c = search needs
-
 pub started-spec : {M : Type 1} → statement M
 started-spec =
     tie.close
     (tie.spec
     Inv-loop
     μ-loop
-    mul-blocks
-    loop-holds
-    filled-requires
-    add-i
-    loop-less
-    loop-again
-    start-requires
-    returns)
+    (λ c. search needs)
+    (λ c. search needs)
+    (λ c κs. search needs)
+    (λ c. search needs)
+    (λ c. search needs)
+    (λ c. search needs)
+    (λ c κs. search needs)
+    (λ c. search needs))

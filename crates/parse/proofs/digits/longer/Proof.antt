@@ -6,15 +6,6 @@ use borrow.Author.Needs.{needs}
 use Rattle.parse.proofs.digits.longer.Statement.{statement}
 use Rattle.parse.proofs.digits.longer.Tie as tie
 
-counted-requires : tie.Need-counted-requires
-counted-requires c κs = search needs
-
-enum-known-found : tie.Need-enum-known-found
-enum-known-found c = search needs
-
-enum-told : tie.Need-enum-told
-enum-told c = search needs
-
 returns : tie.Need-returns
 returns c = longer-none _ _ (sym (c .before .before .counted .ensures) ∙ c .enum-told .given .1)
 
@@ -22,18 +13,9 @@ returns-2 : tie.Need-returns-2
 returns-2 c =
     longer-large _ _ _ (sym (c .before .before .before .before .counted .ensures) ∙ c .before .before .found .given .1) (omega arith)
 
-mul-tens : tie.Need-mul-tens
-mul-tens c = search needs
-
-sub-if2 : tie.Need-sub-if2
-sub-if2 c = search needs
-
 returns-3 : tie.Need-returns-3
 returns-3 c =
     longer-large _ _ _ (sym (c .before .before .before .before .before .counted .ensures) ∙ c .before .before .before .found .given .1) (omega arith)
-
-add-more : tie.Need-add-more
-add-more c = search needs
 
 returns-4 : tie.Need-returns-4
 returns-4 c =
@@ -43,13 +25,13 @@ pub longer-spec : {M : Type 1} → statement M
 longer-spec =
     tie.close
     (tie.spec
-    counted-requires
-    enum-known-found
-    enum-told
+    (λ c κs. search needs)
+    (λ c. search needs)
+    (λ c. search needs)
     returns
     returns-2
-    mul-tens
-    sub-if2
+    (λ c. search needs)
+    (λ c. search needs)
     returns-3
-    add-more
+    (λ c. search needs)
     returns-4)

@@ -6,26 +6,8 @@ use borrow.Author.Needs.{needs}
 use Rattle.parse.proofs.digits.pair.Statement.{statement}
 use Rattle.parse.proofs.digits.pair.Tie as tie
 
-hex-digit-requires : tie.Need-hex-digit-requires
-hex-digit-requires c κs = search needs
-
-enum-known-upper : tie.Need-enum-known-upper
-enum-known-upper c = search needs
-
-enum-told : tie.Need-enum-told
-enum-told c = search needs
-
 returns : tie.Need-returns
 returns c = no-high _ _ (sym (c .before .before .hex-digit .ensures) ∙ c .enum-told .given .1)
-
-hex-digit-requires-2 : tie.Need-hex-digit-requires-2
-hex-digit-requires-2 c κs = search needs
-
-enum-known-lower : tie.Need-enum-known-lower
-enum-known-lower c = search needs
-
-enum-told-2 : tie.Need-enum-told-2
-enum-told-2 c = search needs
 
 returns-2 : tie.Need-returns-2
 returns-2 c =
@@ -52,13 +34,13 @@ pub pair-spec : {M : Type 1} → statement M
 pair-spec =
     tie.close
     (tie.spec
-    hex-digit-requires
-    enum-known-upper
-    enum-told
+    (λ c κs. search needs)
+    (λ c. search needs)
+    (λ c. search needs)
     returns
-    hex-digit-requires-2
-    enum-known-lower
-    enum-told-2
+    (λ c κs. search needs)
+    (λ c. search needs)
+    (λ c. search needs)
     returns-2
     mul-b
     add-b

@@ -25,26 +25,11 @@ cost c = c .of-read .ensures ∙ cost-read _ _
 loop-holds : tie.Need-loop-holds Inv-loop μ-loop
 loop-holds c = sums-begun _
 
-mul-session : tie.Need-mul-session Inv-loop μ-loop
-mul-session c = search needs
-
 element-copy-out-session : tie.Need-element-copy-out-session Inv-loop μ-loop
 element-copy-out-session c = let n = c .before .before .pre .counts .sessions in let l = c .loop-test .taken in omega arith
 
-cast-at : tie.Need-cast-at Inv-loop μ-loop
-cast-at c = search needs
-
-mul-of-read : tie.Need-mul-of-read Inv-loop μ-loop
-mul-of-read c = search needs
-
 element-copy-out-of-read : tie.Need-element-copy-out-of-read Inv-loop μ-loop
 element-copy-out-of-read c = let h = laid-below _ (c .before .before .before .before .pre) _ (c .before .before .loop-test .taken) in omega arith
-
-of-read-requires : tie.Need-of-read-requires Inv-loop μ-loop
-of-read-requires c κs = search needs
-
-cast-rate : tie.Need-cast-rate Inv-loop μ-loop
-cast-rate c = search needs
 
 mul-blocks : tie.Need-mul-blocks Inv-loop μ-loop
 mul-blocks c =
@@ -80,12 +65,6 @@ add-edges c =
     let l = e .loop-test .taken in
     omega arith
 
-add-i : tie.Need-add-i Inv-loop μ-loop
-add-i c = search needs
-
-loop-less : tie.Need-loop-less Inv-loop μ-loop
-loop-less c = search needs
-
 loop-again : tie.Need-loop-again Inv-loop μ-loop
 loop-again c =
     let d = c .before .before .before in
@@ -102,18 +81,18 @@ add-up-spec =
     Inv-loop
     μ-loop
     loop-holds
-    mul-session
+    (λ c. search needs)
     element-copy-out-session
-    cast-at
-    mul-of-read
+    (λ c. search needs)
+    (λ c. search needs)
     element-copy-out-of-read
-    of-read-requires
-    cast-rate
+    (λ c κs. search needs)
+    (λ c. search needs)
     mul-blocks
     add-blocks
     mul-edges
     add-edges
-    add-i
-    loop-less
+    (λ c. search needs)
+    (λ c. search needs)
     loop-again
     returns)

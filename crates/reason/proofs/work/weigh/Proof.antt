@@ -5,58 +5,46 @@ use borrow.Author.Needs.{needs}
 use Rattle.reason.proofs.work.weigh.Statement.{statement}
 use Rattle.reason.proofs.work.weigh.Tie as tie
 
-add-up-requires : tie.Need-add-up-requires
-add-up-requires c κs = search needs
-
-cast-cylinder : tie.Need-cast-cylinder
-cast-cylinder c = search needs
-
-cast-unit : tie.Need-cast-unit
-cast-unit c = search needs
-
-mul-unit : tie.Need-mul-unit
-mul-unit c = search needs
-
 mul-full : tie.Need-mul-full
 mul-full c = let h = full-capped _ (c .before .before .before .pre) _ (c .before .before .add-up .ensures .1) in omega arith
-
-rem-left : tie.Need-rem-left
-rem-left c = search needs
 
 mul-left : tie.Need-mul-left
 mul-left c = let h = left-capped _ (c .before .before .before .before .pre) _ (c .before .before .before .add-up .ensures .1) in omega arith
 
 add-left : tie.Need-add-left
-add-left c = let h = left-capped _ (c .before .before .before .before .before .pre) _ (c .before .before .before .before .add-up .ensures .1) in let g = c .before .before .before .before .add-up .ensures .1 .edges in omega arith
-
-div-t7 : tie.Need-div-t7
-div-t7 c = search needs
+add-left c =
+    let d = c .before .before .before .before in
+    let h = left-capped _ (d .before .pre) _ (d .add-up .ensures .1) in let g = d .add-up .ensures .1 .edges in omega arith
 
 div-t8 : tie.Need-div-t8
 div-t8 c = full-some _ (c .before .before .before .before .before .before .pre) _ (c .before .before .before .before .before .add-up .ensures .1)
 
 add-t9 : tie.Need-add-t9
-add-t9 c = let h = whole-capped _ (c .before .before .before .before .before .before .pre) _ (c .before .before .before .before .before .add-up .ensures .1) in omega arith
+add-t9 c =
+    let d = c .before .before .before .before .before in
+    let h = whole-capped _ (d .before .pre) _ (d .add-up .ensures .1) in omega arith
 
 rem-t10 : tie.Need-rem-t10
 rem-t10 c = full-some _ (c .before .before .before .before .before .before .pre) _ (c .before .before .before .before .before .add-up .ensures .1)
 
 returns : tie.Need-returns
-returns c = weighed _ (c .before .before .before .before .before .before .pre) _ (c .before .before .before .before .before .add-up .ensures .1) (c .before .before .before .before .before .add-up .ensures .0)
+returns c =
+    let d = c .before .before .before .before .before in
+    weighed _ (d .before .pre) _ (d .add-up .ensures .1) (d .add-up .ensures .0)
 
 pub weigh-spec : {M : Type 1} → statement M
 weigh-spec =
     tie.close
     (tie.spec
-    add-up-requires
-    cast-cylinder
-    cast-unit
-    mul-unit
+    (λ c κs. search needs)
+    (λ c. search needs)
+    (λ c. search needs)
+    (λ c. search needs)
     mul-full
-    rem-left
+    (λ c. search needs)
     mul-left
     add-left
-    div-t7
+    (λ c. search needs)
     div-t8
     add-t9
     rem-t10

@@ -14,17 +14,11 @@ seated c = sound-seated _ (c .pre .0) (let l = c .pre .1 in omega arith)
 add-place : tie.Need-add-place
 add-place c = let p = seated c .place in let n = seated c .some .high in let l = c .pre .1 in omega arith
 
-rem-place : tie.Need-rem-place
-rem-place c = search needs
-
 mul-seat : tie.Need-mul-seat
 mul-seat c = let b = onward-few _ (seated c) (c .args .k) in omega arith
 
 element-copy-out-seat : tie.Need-element-copy-out-seat
 element-copy-out-seat c = onward-few _ (seated c) (c .args .k)
-
-cast-seat : tie.Need-cast-seat
-cast-seat c = search needs
 
 mul-left-after : tie.Need-mul-left-after
 mul-left-after c = let b = ahead-few _ (seated (c .before)) (c .before .args .k) in omega arith
@@ -32,20 +26,16 @@ mul-left-after c = let b = ahead-few _ (seated (c .before)) (c .before .args .k)
 element-copy-out-left-after : tie.Need-element-copy-out-left-after
 element-copy-out-left-after c = ahead-few _ (seated (c .before)) (c .before .args .k)
 
-left-after-requires : tie.Need-left-after-requires
-left-after-requires c κs = search needs
-
 mul-state : tie.Need-mul-state
 mul-state c = let b = ahead-few _ (seated (c .before .before .before)) (c .before .before .before .args .k) in omega arith
 
 element-copy-out-state : tie.Need-element-copy-out-state
 element-copy-out-state c = ahead-few _ (seated (c .before .before .before)) (c .before .before .before .args .k)
 
-cast-if1 : tie.Need-cast-if1
-cast-if1 c = search needs
-
 add-if1 : tie.Need-add-if1
-add-if1 c = let p = ahead-put _ (c .before .before .before .before .before .before .before .before .before .pre .0) (seated (c .before .before .before .before .before .before .before .before .before)) (c .before .before .before .before .before .before .before .before .before .args .k) in omega arith
+add-if1 c =
+    let d = c .before .before .before .before .before .before .before .before .before in
+    let p = ahead-put _ (d .pre .0) (seated (d)) (d .args .k) in omega arith
 
 returns : tie.Need-returns
 returns c = arrives-late _ _ (λ h. let l = c .if1 .taken in let f : ⊥ = omega arith in f)
@@ -58,16 +48,16 @@ arrive-spec =
     tie.close
     (tie.spec
     add-place
-    rem-place
+    (λ c. search needs)
     mul-seat
     element-copy-out-seat
-    cast-seat
+    (λ c. search needs)
     mul-left-after
     element-copy-out-left-after
-    left-after-requires
+    (λ c κs. search needs)
     mul-state
     element-copy-out-state
-    cast-if1
+    (λ c. search needs)
     add-if1
     returns
     returns-2)

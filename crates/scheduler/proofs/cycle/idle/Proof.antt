@@ -7,15 +7,6 @@ use borrow.Author.Needs.{needs}
 use Rattle.scheduler.proofs.cycle.idle.Statement.{statement}
 use Rattle.scheduler.proofs.cycle.idle.Tie as tie
 
-mul-seat : tie.Need-mul-seat
-mul-seat c = search needs
-
-element-copy-out-seat : tie.Need-element-copy-out-seat
-element-copy-out-seat c = search needs
-
-cast-seat : tie.Need-cast-seat
-cast-seat c = search needs
-
 mul-run : tie.Need-mul-run
 mul-run c = let b = seat-few _ (c .before .pre) _ (c .before .pre .place) in omega arith
 
@@ -29,4 +20,4 @@ returns c = refl
 pub idle-spec : {M : Type 1} → statement M
 idle-spec =
     tie.close
-    (tie.spec mul-seat element-copy-out-seat cast-seat mul-run element-copy-out-run returns)
+    (tie.spec (λ c. search needs) (λ c. search needs) (λ c. search needs) mul-run element-copy-out-run returns)

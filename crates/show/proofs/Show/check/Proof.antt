@@ -39,16 +39,10 @@ rows c =
     rows-left _ (counts (c .before .before .before))
     (tells-yes _ (c .before .within .result) (not-false _ (c .if2 .left)) (c .before .within .ensures))
 
-counts-within-requires : tie.Need-counts-within-requires Inv-loop μ-loop Inv-loop2 μ-loop2
-counts-within-requires c κs = search needs
-
 returns : tie.Need-returns Inv-loop μ-loop Inv-loop2 μ-loop2
 unfolding showCheck
 returns c =
     sym (first-refused _ _ (broken-if (counts? _ _) Counts (c .before .counts-within .result) (not-true _ (c .if1 .taken)) (c .before .counts-within .ensures)))
-
-within-requires : tie.Need-within-requires Inv-loop μ-loop Inv-loop2 μ-loop2
-within-requires c κs = search needs
 
 returns-2 : tie.Need-returns-2 Inv-loop μ-loop Inv-loop2 μ-loop2
 unfolding showCheck
@@ -65,20 +59,11 @@ mul-within c = let h = counts (c .before .before .before .before .before) .layou
 element-copy-out-within : tie.Need-element-copy-out-within Inv-loop μ-loop Inv-loop2 μ-loop2
 element-copy-out-within c = let h = counts (c .before .before .before .before .before) .layouts .high in let l = c .loop-test .taken in omega arith
 
-within-requires-2 : tie.Need-within-requires-2 Inv-loop μ-loop Inv-loop2 μ-loop2
-within-requires-2 c κs = search needs
-
 returns-3 : tie.Need-returns-3 Inv-loop μ-loop Inv-loop2 μ-loop2
 returns-3 c =
     sym (rows (c .before .before .before .before .before)
     ∙ first-refused _ _ (sym (stopped _ _ _ (c .before .before .before .before .loop .inv) (c .before .before .before .loop-test .taken)
     (broken-if (layout? _) (LayoutLimits _) (c .before .within2 .result) (not-true _ (c .if3 .taken)) (c .before .within2 .ensures)))))
-
-add-i : tie.Need-add-i Inv-loop μ-loop Inv-loop2 μ-loop2
-add-i c = search needs
-
-loop-less : tie.Need-loop-less Inv-loop μ-loop Inv-loop2 μ-loop2
-loop-less c = search needs
 
 loop-again : tie.Need-loop-again Inv-loop μ-loop Inv-loop2 μ-loop2
 loop-again c =
@@ -94,20 +79,11 @@ mul-within-2 c = let h = counts (c .before .before .before .before .before .befo
 element-copy-out-within-2 : tie.Need-element-copy-out-within-2 Inv-loop μ-loop Inv-loop2 μ-loop2
 element-copy-out-within-2 c = let h = counts (c .before .before .before .before .before .before .before) .sessions in let l = c .loop2-test .taken in omega arith
 
-within-requires-3 : tie.Need-within-requires-3 Inv-loop μ-loop Inv-loop2 μ-loop2
-within-requires-3 c κs = search needs
-
 returns-4 : tie.Need-returns-4 Inv-loop μ-loop Inv-loop2 μ-loop2
 returns-4 c =
     sym (rows (c .before .before .before .before .before .before .before) ∙ first-within _ _ (sym (ended _ _ _ (c .before .before .before .before .before .before .loop .inv) (c .before .before .before .before .before .loop-test .left)))
     ∙ sym (stopped _ _ _ (c .before .before .before .before .loop2 .inv) (c .before .before .before .loop2-test .taken)
     (broken-if (session? _ _) (SessionLimits _) (c .before .within3 .result) (not-true _ (c .if4 .taken)) (c .before .within3 .ensures))))
-
-add-k : tie.Need-add-k Inv-loop μ-loop Inv-loop2 μ-loop2
-add-k c = search needs
-
-loop2-less : tie.Need-loop2-less Inv-loop μ-loop Inv-loop2 μ-loop2
-loop2-less c = search needs
 
 loop2-again : tie.Need-loop2-again Inv-loop μ-loop Inv-loop2 μ-loop2
 loop2-again c =
@@ -127,24 +103,24 @@ check-spec =
     μ-loop
     Inv-loop2
     μ-loop2
-    counts-within-requires
+    (λ c κs. search needs)
     returns
-    within-requires
+    (λ c κs. search needs)
     returns-2
     loop-holds
     mul-within
     element-copy-out-within
-    within-requires-2
+    (λ c κs. search needs)
     returns-3
-    add-i
-    loop-less
+    (λ c. search needs)
+    (λ c. search needs)
     loop-again
     loop2-holds
     mul-within-2
     element-copy-out-within-2
-    within-requires-3
+    (λ c κs. search needs)
     returns-4
-    add-k
-    loop2-less
+    (λ c. search needs)
+    (λ c. search needs)
     loop2-again
     returns-5)

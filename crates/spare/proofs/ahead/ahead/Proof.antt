@@ -23,28 +23,16 @@ clock-is c = toZ-pos w64 (let p = c .pre .0 .1 in omega arith)
 fits : (c : tie.Start) → AheadFits (c .args .state .put) (c .args .session .cushion) (c .args .state .clock)
 fits c = ahead-fits _ _ _ (c .pre .0 .0) (omega arith) (c .pre .0 .1)
 
-cast-bytes : tie.Need-cast-bytes
-cast-bytes c = search needs
-
-cast-bytes-2 : tie.Need-cast-bytes-2
-cast-bytes-2 c = search needs
-
 sub-bytes : tie.Need-sub-bytes
 sub-bytes c = rw (put-is (c .before .before), cushion-is (c .before .before)) (fits (c .before .before) .bytes)
 
 mul-microbytes : tie.Need-mul-microbytes
 mul-microbytes c = rw (put-is (c .before .before), cushion-is (c .before .before), toZ-ofZ (fits (c .before .before) .bytes)) (fits (c .before .before) .scaled)
 
-cast-microbytes : tie.Need-cast-microbytes
-cast-microbytes c = search needs
-
 sub-microbytes : tie.Need-sub-microbytes
 sub-microbytes c =
     let s = c .before .before .before in
     rw (put-is s, cushion-is s, toZ-ofZ (fits s .bytes), toZ-ofZ (fits s .scaled), clock-is s) (fits s .whole)
-
-floor-div-requires : tie.Need-floor-div-requires
-floor-div-requires c κs = search needs
 
 returns : tie.Need-returns
 returns c =
@@ -57,11 +45,11 @@ pub ahead-spec : {M : Type 1} → statement M
 ahead-spec =
     tie.close
     (tie.spec
-    cast-bytes
-    cast-bytes-2
+    (λ c. search needs)
+    (λ c. search needs)
     sub-bytes
     mul-microbytes
-    cast-microbytes
+    (λ c. search needs)
     sub-microbytes
-    floor-div-requires
+    (λ c κs. search needs)
     returns)

@@ -34,12 +34,6 @@ seat c = few (c .before .before .before .before .before) _ (c .loop-test .taken)
 ordered-requires : tie.Need-ordered-requires Inv-loop μ-loop
 ordered-requires c κs = (c .before .pre .0 .few, c .before .pre .0 .below)
 
-array-read-first : tie.Need-array-read-first Inv-loop μ-loop
-array-read-first c = search needs
-
-cast-first : tie.Need-cast-first Inv-loop μ-loop
-cast-first c = search needs
-
 mul-sum : tie.Need-mul-sum Inv-loop μ-loop
 mul-sum c = let l = few c 0 (c .before .before .pre .1) in omega arith
 
@@ -72,9 +66,6 @@ mul-i c = let l = c .loop-test .taken in let f = c .before .before .before .befo
 array-read-i : tie.Need-array-read-i Inv-loop μ-loop
 array-read-i c = let l = c .loop-test .taken in let f = c .before .before .before .before .before .before .before .pre .0 .few in omega arith
 
-cast-i : tie.Need-cast-i Inv-loop μ-loop
-cast-i c = search needs
-
 mul-load : tie.Need-mul-load Inv-loop μ-loop
 mul-load c = let l = seat c in omega arith
 
@@ -82,7 +73,9 @@ element-copy-out-load : tie.Need-element-copy-out-load Inv-loop μ-loop
 element-copy-out-load c = seat c
 
 add-load : tie.Need-add-load Inv-loop μ-loop
-add-load c = record { fits = lt-of-le-of-lt (next-small (c .before .before .before .before .before .before .before .before .args .t1) (c .before .before .before .before .before .before .ordered .result) (seats (c .before .before .before .before .before .before)) (c .before .before .before .before .before .before .before .before .pre .0) _ _ (c .before .loop-test .taken) (c .before .before .loop .inv .times)) (omega arith) }
+add-load c =
+    let d = c .before .before .before .before .before .before in
+    record { fits = lt-of-le-of-lt (next-small (d .before .before .args .t1) (d .ordered .result) (seats (d)) (d .before .before .pre .0) _ _ (c .before .loop-test .taken) (c .before .before .loop .inv .times)) (omega arith) }
 
 mul-net-2 : tie.Need-mul-net-2 Inv-loop μ-loop
 mul-net-2 c = let l = seat (c .before) in omega arith
@@ -105,7 +98,9 @@ spare-is c =
     e ∙ c .net2 .ensures ∙ ap (λ (z : ℤ). z -ℤ pos (c .before .before .before .before .loop .sum + setOf (c .before .before .before .before .before .before .before .before .before .before .args .t1 .times) (seatIn (c .before .before .before .before .before .before .before .before .ordered .result) (c .before .before .before .before .loop .k)))) (next-ahead (c .before))
 
 add-k : tie.Need-add-k Inv-loop μ-loop
-add-k c = let l = c .before .before .before .before .loop-test .taken in let f = c .before .before .before .before .before .before .before .before .before .before .before .pre .0 .few in omega arith
+add-k c =
+    let d = c .before .before .before .before in
+    let l = d .loop-test .taken in let f = d .before .before .before .before .before .before .before .pre .0 .few in omega arith
 
 loop-less : tie.Need-loop-less Inv-loop μ-loop
 loop-less c = let l = c .before .before .before .before .loop-test .taken in omega arith
@@ -131,8 +126,8 @@ least-spec =
     Inv-loop
     μ-loop
     ordered-requires
-    array-read-first
-    cast-first
+    (λ c. search needs)
+    (λ c. search needs)
     mul-sum
     element-copy-out-sum
     mul-net
@@ -141,7 +136,7 @@ least-spec =
     loop-holds
     mul-i
     array-read-i
-    cast-i
+    (λ c. search needs)
     mul-load
     element-copy-out-load
     add-load

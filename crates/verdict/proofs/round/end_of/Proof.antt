@@ -16,17 +16,11 @@ abbrev μ-loop : tie.MeasureT-loop
 loop-holds : tie.Need-loop-holds Inv-loop μ-loop
 loop-holds c = end-begun _ (c .pre)
 
-mul-sooner : tie.Need-mul-sooner Inv-loop μ-loop
-mul-sooner c = search needs
-
 element-copy-out-sooner : tie.Need-element-copy-out-sooner Inv-loop μ-loop
 element-copy-out-sooner c = let h = c .before .before .pre .counts .sessions in let l = c .loop-test .taken in omega arith
 
 sooner-requires : tie.Need-sooner-requires Inv-loop μ-loop
 sooner-requires c κs = can-last _ (c .before .before .before .pre) _ (c .before .loop-test .taken)
-
-add-i : tie.Need-add-i Inv-loop μ-loop
-add-i c = search needs
 
 loop-less : tie.Need-loop-less Inv-loop μ-loop
 loop-less c = let l = c .before .before .loop-test .taken in omega arith
@@ -45,10 +39,10 @@ end-of-spec =
     Inv-loop
     μ-loop
     loop-holds
-    mul-sooner
+    (λ c. search needs)
     element-copy-out-sooner
     sooner-requires
-    add-i
+    (λ c. search needs)
     loop-less
     loop-again
     returns)

@@ -16,28 +16,13 @@ capped c =
     let a : c .before .args .block ≤ 4294967295 = omega arith in
     mul-le-mul m a
 
-add-blocks : tie.Need-add-blocks
-add-blocks c = search needs
-
 mul-blocks : tie.Need-mul-blocks
 mul-blocks c = omega (arith, capped c)
-
-cast-needed : tie.Need-cast-needed
-cast-needed c = search needs
 
 add-needed : tie.Need-add-needed
 add-needed c = omega (arith, capped (c .before))
 
-cast-if2 : tie.Need-cast-if2
-cast-if2 c = search needs
-
-returns-2 : tie.Need-returns-2
-returns-2 c = search needs
-
-returns-3 : tie.Need-returns-3
-returns-3 c = search needs
-
 pub fits-spec : {M : Type 1} → statement M
 fits-spec =
     tie.close
-    (tie.spec returns add-blocks mul-blocks cast-needed add-needed cast-if2 returns-2 returns-3)
+    (tie.spec returns (λ c. search needs) mul-blocks (λ c. search needs) add-needed (λ c. search needs) (λ c. search needs) (λ c. search needs))

@@ -18,23 +18,11 @@ abbrev μ-loop : tie.MeasureT-loop
 loop-holds : tie.Need-loop-holds Inv-loop μ-loop
 loop-holds c = row-begun _ _ _ (filled-none 16 0 _)
 
-mul-session : tie.Need-mul-session Inv-loop μ-loop
-mul-session c = search needs
-
 element-copy-out-session : tie.Need-element-copy-out-session Inv-loop μ-loop
 element-copy-out-session c = let h = c .before .before .pre .counts .sessions in let l = c .loop-test .taken in omega arith
 
-cast-rates : tie.Need-cast-rates Inv-loop μ-loop
-cast-rates c = search needs
-
-mul-rates : tie.Need-mul-rates Inv-loop μ-loop
-mul-rates c = search needs
-
 array-write-rates : tie.Need-array-write-rates Inv-loop μ-loop
 array-write-rates c = let h = c .before .before .before .before .pre .counts .sessions in let l = c .before .before .loop-test .taken in omega arith
-
-add-i : tie.Need-add-i Inv-loop μ-loop
-add-i c = search needs
 
 loop-less : tie.Need-loop-less Inv-loop μ-loop
 loop-less c = let l = c .before .before .loop-test .taken in omega arith
@@ -52,12 +40,12 @@ rates-of-spec =
     Inv-loop
     μ-loop
     loop-holds
-    mul-session
+    (λ c. search needs)
     element-copy-out-session
-    cast-rates
-    mul-rates
+    (λ c. search needs)
+    (λ c. search needs)
     array-write-rates
-    add-i
+    (λ c. search needs)
     loop-less
     loop-again
     returns)

@@ -32,12 +32,6 @@ Inv-loop show drive unit end rates covered₀ times₀ t₀ covered times t = Se
 abbrev μ-loop : tie.MeasureT-loop
 μ-loop show drive unit end rates covered₀ times₀ t₀ covered times t = end - t
 
-cast-unit : tie.Need-cast-unit Inv-loop2 μ-loop2 Inv-loop μ-loop
-cast-unit c = search needs
-
-mul-unit : tie.Need-mul-unit Inv-loop2 μ-loop2 Inv-loop μ-loop
-mul-unit c = search needs
-
 end-of-requires : tie.Need-end-of-requires Inv-loop2 μ-loop2 Inv-loop μ-loop
 end-of-requires c κs = c .before .before .pre
 
@@ -69,17 +63,11 @@ fits c = fits-early _ (within c) _ (c .before .before .before .before .before .e
 rate : (c : tie.In-loop2 Inv-loop2 μ-loop2 Inv-loop μ-loop) → getD (c .before .before .before .rates-of .result) (c .before .loop2 .i) 0 ≡ ratesOf (show c) (c .before .loop2 .i)
 rate c = rate-at (show c) _ (c .before .before .before .rates-of .ensures) _ (c .loop2-test .taken)
 
-mul-work : tie.Need-mul-work Inv-loop2 μ-loop2 Inv-loop μ-loop
-mul-work c = search needs
-
 array-read-work : tie.Need-array-read-work Inv-loop2 μ-loop2 Inv-loop μ-loop
 array-read-work c = few c
 
 mul-work-2 : tie.Need-mul-work-2 Inv-loop2 μ-loop2 Inv-loop μ-loop
 mul-work-2 c = omega (arith, work-capped _ (within c) _ _ _ (rate c) (c .loop2-test .taken) (fits c))
-
-mul-if2 : tie.Need-mul-if2 Inv-loop2 μ-loop2 Inv-loop μ-loop
-mul-if2 c = search needs
 
 array-read-if2 : tie.Need-array-read-if2 Inv-loop2 μ-loop2 Inv-loop μ-loop
 array-read-if2 c = few c
@@ -90,14 +78,8 @@ div-count c = let h = within (c .before) .drive .block .low in omega arith
 add-count : tie.Need-add-count Inv-loop2 μ-loop2 Inv-loop μ-loop
 add-count c = omega (arith, count-few _ (within (c .before)) _ _ _ (rate (c .before)) (c .before .loop2-test .taken) (fits (c .before)))
 
-mul-session : tie.Need-mul-session Inv-loop2 μ-loop2 Inv-loop μ-loop
-mul-session c = search needs
-
 element-copy-out-session : tie.Need-element-copy-out-session Inv-loop2 μ-loop2 Inv-loop μ-loop
 element-copy-out-session c = few (c .before)
-
-cast-at : tie.Need-cast-at Inv-loop2 μ-loop2 Inv-loop μ-loop
-cast-at c = search needs
 
 mul-takes : tie.Need-mul-takes Inv-loop2 μ-loop2 Inv-loop μ-loop
 mul-takes c = let h = laid-below _ (within (c .before .before .before)) _ (c .before .before .before .loop2-test .taken) in omega arith
@@ -106,7 +88,9 @@ element-copy-out-takes : tie.Need-element-copy-out-takes Inv-loop2 μ-loop2 Inv-
 element-copy-out-takes c = let h = laid-below _ (within (c .before .before .before)) _ (c .before .before .before .loop2-test .taken) in omega arith
 
 cast-takes : tie.Need-cast-takes Inv-loop2 μ-loop2 Inv-loop μ-loop
-cast-takes c = omega (arith, count-few _ (within (c .before .before .before .before)) _ _ _ (rate (c .before .before .before .before)) (c .before .before .before .before .loop2-test .taken) (fits (c .before .before .before .before)))
+cast-takes c =
+    let d = c .before .before .before .before in
+    omega (arith, count-few _ (within (d)) _ _ _ (rate (d)) (d .loop2-test .taken) (fits (d)))
 
 takes-requires : tie.Need-takes-requires Inv-loop2 μ-loop2 Inv-loop μ-loop
 takes-requires c κs =
@@ -116,19 +100,22 @@ takes-requires c κs =
 time :
     (c : tie.After-takes Inv-loop2 μ-loop2 Inv-loop μ-loop) →
     c .takes .result ≡ loadOf (show (c .before .before .before .before .before)) .stream (c .before .before .before .before .before .before .loop2 .i) .time (asked (loadOf (show (c .before .before .before .before .before))) (c .before .before .before .before .before .before .loop2 .t) (c .before .before .before .before .before .before .loop2 .i))
-time c = time-asked _ (within (c .before .before .before .before .before)) _ _ _ (rate (c .before .before .before .before .before)) (c .before .before .before .before .before .loop2-test .taken) _ (c .takes .ensures .0)
-
-mul-t : tie.Need-mul-t Inv-loop2 μ-loop2 Inv-loop μ-loop
-mul-t c = search needs
+time c =
+    let d = c .before .before .before .before .before in
+    time-asked _ (within (d)) _ _ _ (rate (d)) (d .loop2-test .taken) _ (c .takes .ensures .0)
 
 array-read-t : tie.Need-array-read-t Inv-loop2 μ-loop2 Inv-loop μ-loop
 array-read-t c = few (c .before .before .before .before .before)
 
 sub-t : tie.Need-sub-t Inv-loop2 μ-loop2 Inv-loop μ-loop
-sub-t c = part _ (within (c .before .before .before .before .before)) _ _ _ _ _ _ (c .before .before .before .before .before .before .loop2 .inv) (c .before .before .before .before .before .loop2-test .taken)
+sub-t c =
+    let d = c .before .before .before .before .before in
+    part _ (within (d)) _ _ _ _ _ _ (d .before .loop2 .inv) (d .loop2-test .taken)
 
 add-t : tie.Need-add-t Inv-loop2 μ-loop2 Inv-loop μ-loop
-add-t c = omega (arith, later-small _ (within (c .before .before .before .before .before)) _ _ _ _ _ _ (c .before .before .before .before .before .before .loop2 .inv) (c .before .before .before .before .before .loop2-test .taken) _ (time c) (fits (c .before .before .before .before .before)))
+add-t c =
+    let d = c .before .before .before .before .before in
+    omega (arith, later-small _ (within (d)) _ _ _ _ _ _ (d .before .loop2 .inv) (d .loop2-test .taken) _ (time c) (fits (d)))
 
 returns-2 : tie.Need-returns-2 Inv-loop2 μ-loop2 Inv-loop μ-loop
 returns-2 c =
@@ -136,16 +123,12 @@ returns-2 c =
     (let h = later-small _ (within (c .before .before .before .before .before .before)) _ _ _ _ _ _ (c .before .before .before .before .before .before .before .loop2 .inv) (c .before .before .before .before .before .before .loop2-test .taken) _ (time (c .before)) (fits (c .before .before .before .before .before .before)) in omega arith)
 
 mul-covered : tie.Need-mul-covered Inv-loop2 μ-loop2 Inv-loop μ-loop
-mul-covered c = omega (arith, covered-capped _ (within (c .before .before .before .before .before .before)) _ _ _ (rate (c .before .before .before .before .before .before)) (c .before .before .before .before .before .before .loop2-test .taken) (fits (c .before .before .before .before .before .before)))
-
-mul-covered-2 : tie.Need-mul-covered-2 Inv-loop2 μ-loop2 Inv-loop μ-loop
-mul-covered-2 c = search needs
+mul-covered c =
+    let d = c .before .before .before .before .before .before in
+    omega (arith, covered-capped _ (within (d)) _ _ _ (rate (d)) (d .loop2-test .taken) (fits (d)))
 
 array-write-covered : tie.Need-array-write-covered Inv-loop2 μ-loop2 Inv-loop μ-loop
 array-write-covered c = few (c .before .before .before .before .before .before)
-
-mul-times : tie.Need-mul-times Inv-loop2 μ-loop2 Inv-loop μ-loop
-mul-times c = search needs
 
 array-write-times : tie.Need-array-write-times Inv-loop2 μ-loop2 Inv-loop μ-loop
 array-write-times c = few (c .before .before .before .before .before .before)
@@ -157,10 +140,9 @@ changed :
     (set (c .before .before .before .before .before .before .before .loop2 .covered) (c .before .before .before .before .before .before .before .loop2 .i) ((getD (c .before .before .before .before .before .before .before .before .before .rates-of .result) (c .before .before .before .before .before .before .before .loop2 .i) 0 * c .before .before .before .before .before .before .before .loop2 .t / unit (loadOf (show (c .before .before .before .before .before .before))) + 1) * unit (loadOf (show (c .before .before .before .before .before .before)))))
     (set (c .before .before .before .before .before .before .before .loop2 .times) (c .before .before .before .before .before .before .before .loop2 .i) (c .before .takes .result))
     (c .before .before .before .before .before .before .before .loop2 .t - getD (c .before .before .before .before .before .before .before .loop2 .times) (c .before .before .before .before .before .before .before .loop2 .i) 0 + c .before .takes .result) (c .before .before .before .before .before .before .before .loop2 .i + 1)
-changed c = changes _ (within (c .before .before .before .before .before .before)) _ _ _ _ _ _ (c .before .before .before .before .before .before .before .loop2 .inv) (c .before .before .before .before .before .before .loop2-test .taken) _ (time (c .before)) _ (count-asked _ (within (c .before .before .before .before .before .before)) _ _ _ (rate (c .before .before .before .before .before .before))) (c .if3 .left)
-
-add-i : tie.Need-add-i Inv-loop2 μ-loop2 Inv-loop μ-loop
-add-i c = search needs
+changed c =
+    let d = c .before .before .before .before .before .before in
+    changes _ (within (d)) _ _ _ _ _ _ (d .before .loop2 .inv) (d .loop2-test .taken) _ (time (c .before)) _ (count-asked _ (within (d)) _ _ _ (rate (d))) (c .if3 .left)
 
 loop2-less : tie.Need-loop2-less Inv-loop2 μ-loop2 Inv-loop μ-loop
 loop2-less c = let l = c .before .loop2-test .taken in omega arith
@@ -190,38 +172,38 @@ settle-spec =
     μ-loop2
     Inv-loop
     μ-loop
-    cast-unit
-    mul-unit
+    (λ c. search needs)
+    (λ c. search needs)
     end-of-requires
     returns
     rates-of-requires
     loop-holds
     loop2-holds
-    mul-work
+    (λ c. search needs)
     array-read-work
     mul-work-2
-    mul-if2
+    (λ c. search needs)
     array-read-if2
     div-count
     add-count
-    mul-session
+    (λ c. search needs)
     element-copy-out-session
-    cast-at
+    (λ c. search needs)
     mul-takes
     element-copy-out-takes
     cast-takes
     takes-requires
-    mul-t
+    (λ c. search needs)
     array-read-t
     sub-t
     add-t
     returns-2
     mul-covered
-    mul-covered-2
+    (λ c. search needs)
     array-write-covered
-    mul-times
+    (λ c. search needs)
     array-write-times
-    add-i
+    (λ c. search needs)
     loop2-less
     loop2-again
     returns-3

@@ -22,9 +22,6 @@ line : (N : ℕ) (x : Cost) (n e : ℕ) → e ≡ edges N n → x .fixed + n * x
 unfolding worstTime
 line N x n e h = rw h
 
-of-read-requires : tie.Need-of-read-requires
-of-read-requires c κs = search needs
-
 mul-blocks : tie.Need-mul-blocks
 mul-blocks c = let p = parts (c .before) .blocks in omega arith
 
@@ -61,4 +58,4 @@ returns c =
 pub takes-spec : {M : Type 1} → statement M
 takes-spec =
     tie.close
-    (tie.spec of-read-requires mul-blocks edges-requires mul-crossed add-result add-result-2 returns)
+    (tie.spec (λ c κs. search needs) mul-blocks edges-requires mul-crossed add-result add-result-2 returns)

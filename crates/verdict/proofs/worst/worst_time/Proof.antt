@@ -23,17 +23,8 @@ passed c = sym (c .before .before .check .ensures) ∙ c .enum-told .given .1
 within : (c : tie.After-enum-told) → ShowWithin (show c)
 within c = check-within _ (passed c)
 
-check-requires : tie.Need-check-requires
-check-requires c κs = search needs
-
-enum-known-check : tie.Need-enum-known-check
-enum-known-check c = search needs
-
 returns : tie.Need-returns
 returns c = sym (worst-refused _ _ _ (sym (c .before .before .before .check .ensures) ∙ c .before .check2 .given .1))
-
-enum-told : tie.Need-enum-told
-enum-told c = search needs
 
 returns-2 : tie.Need-returns-2
 returns-2 c = sym (worst-nobody _ _ _ (passed (c .before)) (c .if1 .taken))
@@ -43,12 +34,6 @@ mul-session c = let h = within (c .before) .counts .sessions in let l = c .if1 .
 
 element-copy-out-session : tie.Need-element-copy-out-session
 element-copy-out-session c = let h = within (c .before) .counts .sessions in let l = c .if1 .left in omega arith
-
-cast-at : tie.Need-cast-at
-cast-at c = search needs
-
-mul-takes : tie.Need-mul-takes
-mul-takes c = search needs
 
 element-copy-out-takes : tie.Need-element-copy-out-takes
 element-copy-out-takes c = let h = laid-below _ (within (c .before .before .before)) _ (c .before .before .if1 .left) in omega arith
@@ -69,15 +54,15 @@ pub worst-time-spec : {M : Type 1} → statement M
 worst-time-spec =
     tie.close
     (tie.spec
-    check-requires
-    enum-known-check
+    (λ c κs. search needs)
+    (λ c. search needs)
     returns
-    enum-told
+    (λ c. search needs)
     returns-2
     mul-session
     element-copy-out-session
-    cast-at
-    mul-takes
+    (λ c. search needs)
+    (λ c. search needs)
     element-copy-out-takes
     takes-requires
     returns-3)

@@ -17,9 +17,6 @@ counts c = tells-yes _ (c .before .counts-within .result) (not-false _ (c .if1 .
 distances : (c : tie.Else2) → Distanced (c .before .before .before .before .args .at) (c .before .before .before .before .args .self)
 distances c = tells-yes _ (c .before .distanced .result) (not-false _ (c .if2 .left)) (c .before .distanced .ensures)
 
-counts-within-requires : tie.Need-counts-within-requires
-counts-within-requires c κs = search needs
-
 returns : tie.Need-returns
 returns c = trailer-counts _ _ (tells-no _ (c .before .counts-within .result) (not-true _ (c .if1 .taken)) (c .before .counts-within .ensures))
 
@@ -47,9 +44,6 @@ sub-note-within c =
     let d = distances (c .before) in
     omega arith
 
-note-within-requires : tie.Need-note-within-requires
-note-within-requires c κs = search needs
-
 returns-3 : tie.Need-returns-3
 returns-3 c = trailer-note _ _ (counts (c .before .before .before .before .before)) (distances (c .before .before .before)) (tells-no _ (c .before .note-within .result) (not-true _ (c .if3 .taken)) (c .before .note-within .ensures))
 
@@ -60,13 +54,13 @@ pub check-spec : {M : Type 1} → statement M
 check-spec =
     tie.close
     (tie.spec
-    counts-within-requires
+    (λ c κs. search needs)
     returns
     distanced-requires
     returns-2
     add-note-within
     mul-note-within
     sub-note-within
-    note-within-requires
+    (λ c κs. search needs)
     returns-3
     returns-4)
