@@ -14,7 +14,7 @@ use Rattle.run.specs.declared.State.{State}
 use Rattle.run.specs.declared.Underway.{Underway}
 use Rattle.run.specs.declared.Underway.the-variants as underway
 use Rattle.run.specs.declared.Run.{Run}
-use Rattle.run.specs.Run.{spanMost, playing, stateAt, clipAt, wholeAt, PutAt, withStates, withCycle}
+use Rattle.run.specs.Run.{spanMost, playing, stateAt, clipAt, leftAt, PutAt, withStates, withCycle}
 use Rattle.run.specs.Seats.{Seated}
 use Rattle.run.specs.Sound.{SoundRun}
 use Rattle.run.specs.Steps.{passed, drawnAt, stored, landed}
@@ -116,12 +116,12 @@ module _ (r : Run) (d : ℕ) where
 
       -- the same from its parts: the states after d µs, the place and what is left
       pub finish-counted :
-          (i : ℕ) (l : List State) (p n : ℕ) → r .underway ≡ underway.Read i → l ≡ clocksAfter (r .started) (r .show) d (r .states) →
-          p ≡ placeAfter (r .place) (r .left) (playing r) → n ≡ countedOff (r .left) (wholeAt r p) →
+          (i : ℕ) (l : List State) (p fresh n : ℕ) → r .underway ≡ underway.Read i → l ≡ clocksAfter (r .started) (r .show) d (r .states) →
+          p ≡ placeAfter (r .place) (r .left) (playing r) → fresh ≡ leftAt r p → n ≡ countedOff (r .left) fresh →
           granted (withCycle (stored (withStates r l) i) p n underway.Nothing) ≡ finishOf r d
       unfolding landed
-      finish-counted i l p n e f g h =
-          finish-granted i (withStates r l) _ e (advanced-run r d l f) (counts-off (stored (withStates r l) i) p g n h)
+      finish-counted i l p fresh n e f g k h =
+          finish-granted i (withStates r l) _ e (advanced-run r d l f) (counts-off (stored (withStates r l) i) p g n (h ∙ ap (countedOff (r .left)) k))
 
 -- A session under way is one of sixteen, and the cycle is somewhere.
 module _ (r : Run) (s : SoundRun r) (i : ℕ) (e : r .underway ≡ underway.Read i) where

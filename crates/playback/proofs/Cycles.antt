@@ -7,21 +7,18 @@ use native.Mathlib.Nat.{mod-self, mod-eq-of-lt}
 use native.Mathlib.Omega.{arith}
 use Rattle.run.specs.declared.Underway.the-variants.{Nothing}
 use Rattle.run.specs.declared.Run.{Run}
-use Rattle.run.specs.Run.{playing, seatAt, wholeAt, onward, withCycle}
-use Rattle.run.specs.Seats.{Seated}
+use Rattle.run.specs.Run.{playing, leftAt, withCycle}
 use Rattle.run.specs.Steps.{counted}
-use Rattle.run.proofs.Steps.{onward-below}
-use Rattle.run.proofs.Seats.{seat-few}
 use Rattle.playback.specs.Parts.{placeAfter, countedOff}
 
 -- ---- what is left
 
-module _ (left whole : ℕ) where
-  pub left-fewer : 1 < left → left - 1 ≡ countedOff left whole
+module _ (left fresh : ℕ) where
+  pub left-fewer : 1 < left → left - 1 ≡ countedOff left fresh
   left-fewer l = sym (if-neg (decLe left 1) (λ g. let f : ⊥ = omega arith in f) _ _)
 
-  pub left-whole : left ≤ 1 → whole ≡ countedOff left whole
-  left-whole l = sym (if-pos (decLe left 1) l _ _)
+  pub left-fresh : left ≤ 1 → fresh ≡ countedOff left fresh
+  left-fresh l = sym (if-pos (decLe left 1) l _ _)
 
 -- ---- the place
 
@@ -44,27 +41,13 @@ module _ (place left playing : ℕ) where
 -- ---- on a run
 
 module _ (r : Run) (p : ℕ) (e : p ≡ placeAfter (r .place) (r .left) (playing r)) where
-  module _ (h : Seated r) where
-    place-inside : p < playing r
-    place-inside =
-        elim (decLe (r .left) 1) [
-          | yes m ↦ rw (e ∙ if-pos (decLe (r .left) 1) m _ _) (onward-below r 1 (h .some .low))
-          | no m ↦ rw (e ∙ if-neg (decLe (r .left) 1) m _ _) (h .place)
-        ]
-
-    pub place-few : p < 16
-    place-few = let b = place-inside in let n = h .some .high in omega arith
-
-    pub seated-few : seatAt r p < 16
-    seated-few = seat-few r h p place-inside
-
-  pub counts-off : (l : ℕ) → l ≡ countedOff (r .left) (wholeAt r p) → withCycle r p l Nothing ≡ counted r
+  pub counts-off : (l : ℕ) → l ≡ countedOff (r .left) (leftAt r p) → withCycle r p l Nothing ≡ counted r
   unfolding counted
   counts-off l f =
       elim (decLe (r .left) 1) [
         | yes m ↦
             (ap (λ (k : ℕ). withCycle r p k Nothing) (f ∙ if-pos (decLe (r .left) 1) m _ _)
-            ∙ ap (λ (k : ℕ). withCycle r k (wholeAt r k) Nothing) (e ∙ if-pos (decLe (r .left) 1) m _ _)
+            ∙ ap (λ (k : ℕ). withCycle r k (leftAt r k) Nothing) (e ∙ if-pos (decLe (r .left) 1) m _ _)
             ∙ sym (if-pos (decLe (r .left) 1) m _ _))
         | no m ↦
             (ap (λ (k : ℕ). withCycle r p k Nothing) (f ∙ if-neg (decLe (r .left) 1) m _ _)

@@ -30,4 +30,4 @@ abbrev pub placeAfter : ℕ → ℕ → ℕ → ℕ
 placeAfter place left playing = ite (decLe left 1) ((place + 1) % playing) place
 
 abbrev pub countedOff : ℕ → ℕ → ℕ
-countedOff left whole = ite (decLe left 1) whole (left - 1)
+countedOff left fresh = ite (decLe left 1) fresh (left - 1)

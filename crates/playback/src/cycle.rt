@@ -18,12 +18,12 @@ pub(crate) fn place_after(place: usize, left: u32, playing: usize) -> usize
     0
 }
 
-// One block fewer is left; at none left the next session's whole count.
-pub(crate) fn count_off(left: u32, whole: u32) -> u32
-    ensures { λ r. ⌜ r ≡ countedOff left whole ⌝ }
+// One block fewer is left; at none left the next operation's.
+pub(crate) fn count_off(left: u32, fresh: u32) -> u32
+    ensures { λ r. ⌜ r ≡ countedOff left fresh ⌝ }
 {
     if 1 < left {
         return left - 1;
     }
-    whole
+    fresh
 }

@@ -15,6 +15,7 @@ use run::Moved;
 use run::Run;
 use run::State;
 use run::Underway;
+use run::left_in;
 use run_test::Test;
 use run_test::test_run;
 use show::Show;
@@ -152,7 +153,6 @@ pub fn finish(run: Run, d: u64) -> Moved
     let mut states = advance(show, was, run.started, d);
     states[session] = fill(states[session], show.drive.block);
     let place = place_after(run.place, run.left, show.playing);
-    let seat = order[place] as usize;
     Moved {
         check: Check::Within,
         run: Run {
@@ -161,7 +161,7 @@ pub fn finish(run: Run, d: u64) -> Moved
             states,
             order,
             place,
-            left: count_off(run.left, counts[seat]),
+            left: count_off(run.left, left_in(counts, order, place)),
             underway: Underway::Nothing,
             started: run.started,
         },

@@ -27,7 +27,7 @@ use Rattle.run.specs.declared.State.{State}
 use Rattle.run.specs.declared.Underway.{Underway}
 use Rattle.run.specs.declared.Underway.the-variants as underway
 use Rattle.run.specs.declared.Run.{Run}
-use Rattle.run.specs.Run.{playing, noState, stateAt, clipAt, countAt, seatAt, wholeAt, onward, Room, RoomAt, PutAt, withStates, withCycle}
+use Rattle.run.specs.Run.{playing, noState, stateAt, clipAt, countAt, seatAt, wholeAt, leftIn, leftAt, onward, Room, RoomAt, PutAt, withStates, withCycle}
 use Rattle.run.specs.Sound.{StateSound, NamedOnce, Turning, Resting, MayRead, SoundRun}
 use Rattle.run.specs.Decisions.{sound?, soundCheck}
 use Rattle.run.specs.Answers.{moved, presentCheck}
@@ -96,8 +96,13 @@ module _ (r q : Run) (a : AlikeRuns r q) where
         good-same (loadOf (q .show)) (setOf (r .counts)) (setOf (q .counts)) (λ i l. a .counts i (omega arith))
         (alike-good (q .show) (r .show) (alike-back (r .show) (q .show) (a .show)) within (setOf (r .counts)) (s .counts))
 
-    pub whole-alike : (k : ℕ) → k < playing r → wholeAt r k ≡ wholeAt q k
+    whole-alike : (k : ℕ) → k < playing r → wholeAt r k ≡ wholeAt q k
     whole-alike k l = a .counts (seatAt r k) (seat-below r s k l) ∙ ap (countAt q) (a .order k l)
+
+    -- What is left when an operation begins is read off the counts and the order.
+    pub left-alike : (k : ℕ) → k < playing r → leftAt r k ≡ leftAt q k
+    unfolding leftIn
+    left-alike k l = whole-alike k l
 
     state-sound : (i : ℕ) → i < playing r → StateSound (q .started) (clipAt q i) (stateAt q i)
     state-sound i l =

@@ -24,7 +24,7 @@ use Rattle.run.specs.declared.Underway.the-variants as underway
 use Rattle.run.specs.declared.Run.{Run}
 use Rattle.run.specs.declared.Opened.{Opened}
 use Rattle.run.specs.declared.Moved.{Moved}
-use Rattle.run.specs.Run.{stateAt, seatAt}
+use Rattle.run.specs.Run.{stateAt, seatAt, leftIn}
 use Rattle.run.specs.Sound.{SoundRun}
 use Rattle.run.specs.Opening.{firstRun}
 use Rattle.run.specs.Decisions.{below?, some?, show?, good?, false?, true?, waiting?, state?, named?, nothing?, room?, put?, mayRead?, underway?, cycle?}
@@ -38,7 +38,7 @@ use Rattle.playback.proofs.Calls.{finish-nothing, finish-granted}
 use Rattle.scheduler.specs.declared.Choice.{Choice}
 use Rattle.scheduler.specs.declared.Choice.the-variants as choice
 use Rattle.scheduler.specs.declared.Chosen.{Chosen}
-use Rattle.scheduler.specs.Answers.{arrived, chooseOf}
+use Rattle.scheduler.specs.Answers.{arrived, arrivedPast, chooseOf}
 use Rattle.scheduler.proofs.Calls.{choose-next}
 use Rattle.spare.specs.declared.Spare.{Spare}
 use Rattle.spare.specs.declared.Spare.the-variants as spare
@@ -77,13 +77,14 @@ sounds =
 -- ---- a run and its test
 
 pub of-run : OfRun
-unfolding firstRun listed padded
+unfolding firstRun leftIn listed padded
 of-run =
     record {
       full-buffer-is-damage = λ n.
           n (record { put = omega arith; taken = omega arith; held = omega arith; clock = omega arith; early = λ e. absurd (started e) });
       room-without-the-block = λ h. (let f : ⊥ = omega arith in f);
       left-as-it-was = λ e. other e tt;
+      one-used-up = λ e. other e tt;
       order-past-the-last = λ o h e.
           other
           (sym
@@ -159,7 +160,7 @@ reading underway.Nothing = 0
 reading (underway.Read i) = 1 + i
 
 pub of-scheduler : OfScheduler
-unfolding arrived skipped firstFrom begun room? put? decLe decLt listed
+unfolding arrived skipped firstFrom begun leftIn room? put? decLe decLt listed
 of-scheduler =
     record {
       idle-for-one = λ e. apart choosing (ap (λ (c : Chosen). c .choice) second ∙ e) tt;
@@ -178,7 +179,7 @@ of-scheduler =
     }
   where
     -- of the crowded run the second is chosen
-    second : arrived crowded (skipped crowded) ≡ chooseOf crowded
+    second : arrivedPast crowded (skipped crowded) ≡ chooseOf crowded
     second = choose-next crowded (sounds .full) refl (λ z. let f : ⊥ = omega arith in f) _ (ltb→lt _ _ tt) refl
 
 -- ---- spare time

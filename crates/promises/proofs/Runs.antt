@@ -5,7 +5,7 @@ use mathlib.Core.Bool.{true, false}
 use mathlib.Core.List.{List}
 use native.Mathlib.Omega.{arith}
 use lib.IntN.{ℤ}
-use lib.ListN.{length, getD, length-replicate}
+use lib.ListN.{length, getD}
 use lib.Signed.{_≤ℤ_}
 use Rattle.show.specs.declared.Show.{Show}
 use Rattle.show.specs.declared.refusal.Check.{Check}
@@ -24,7 +24,7 @@ use Rattle.run.specs.Steps.{idled}
 use Rattle.run.specs.Opening.{OpenIs, firstRun}
 use Rattle.run.specs.Laws.{Kept}
 use Rattle.run.proofs.States.{true-false}
-use Rattle.run.proofs.Begins.{opened-begins, opened-sound, opened-show, table-length}
+use Rattle.run.proofs.Begins.{opened-begins, opened-sound, opened-show, table-length, first-states-length}
 use Rattle.run.proofs.Rest.{same-kept}
 use Rattle.run.proofs.Steps.{idled-sound}
 use Rattle.player.proofs.Laws.{granted-sound, refused-back}
@@ -97,7 +97,7 @@ unfolding firstRun
 opened-sized s o h e =
     let b = opened-begins s o h e in
     record {
-      states = ap (λ (r : Run). length (r .states)) (b .first) ∙ length-replicate 16 noState;
+      states = ap (λ (r : Run). length (r .states)) (b .first) ∙ first-states-length s (b .within .counts .sessions);
       order = ap (λ (r : Run). length (r .order)) (b .first) ∙ table-length (s .playing) (b .within .counts .sessions);
     }
 

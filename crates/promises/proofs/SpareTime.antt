@@ -20,7 +20,7 @@ use Rattle.theory.proofs.Floor.{floor-floors}
 use Rattle.theory.proofs.Slack.{attained, slack-least, rank-below, rank-rises, rank-first, rank-apart}
 use Rattle.run.specs.declared.Underway.the-variants.{Nothing}
 use Rattle.run.specs.declared.Run.{Run}
-use Rattle.run.specs.Run.{playing, clipAt, seatAt}
+use Rattle.run.specs.Run.{playing, clipAt, seatAt, leftIn}
 use Rattle.run.specs.Sound.{SoundRun, NamesEach}
 use Rattle.run.specs.Decisions.{sound?}
 use Rattle.run.specs.Answers.{moved}
@@ -125,7 +125,7 @@ module _ (r : Run) (n : Sized r) (e : startOf r .check ≡ Within) where
 
 module _ (r : Run) (e : startOf r .check ≡ Within) where
   start-first-session : AtFirst (startOf r .run)
-  unfolding running
+  unfolding running leftIn
   start-first-session = rw (start-runs r e) (record { place = refl; left = refl; underway = starts r (checked r e) .free })
 
 start-within :

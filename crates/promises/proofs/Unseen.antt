@@ -35,20 +35,21 @@ use Rattle.run.specs.declared.State.{State}
 use Rattle.run.specs.declared.Underway.{Underway}
 use Rattle.run.specs.declared.Underway.the-variants as underway
 use Rattle.run.specs.declared.Run.{Run}
-use Rattle.run.specs.Run.{playing, noState, stateAt, countAt, seatAt, wholeAt, onward, RoomAt, PutAt}
+use Rattle.run.specs.Run.{playing, noState, firstState, stateAt, countAt, seatAt, leftIn, leftAt, onward, RoomAt, PutAt}
 use Rattle.run.specs.Sound.{SoundRun}
 use Rattle.run.specs.Decisions.{false?, sound?, room?, put?, soundCheck}
 use Rattle.run.specs.declared.Opened.{Opened}
 use Rattle.run.specs.Opening.{OpenIs, openedBy, firstRun, tableOrder, noRun}
 use Rattle.run.specs.Answers.{presentCheck, freeCheck}
-use Rattle.run.specs.Steps.{passed, drawnAt, idled, firstFrom, skipped, leftAfter, begun}
+use Rattle.run.specs.Steps.{passed, drawnAt, idled, firstFrom, skipped, leftAfter, leftPast, begun}
 use Rattle.run.specs.Steps.{filled, stored, counted, landed}
+use Rattle.run.proofs.Begins.{first-state-at}
 use Rattle.run.proofs.Rest.{passed-kept}
 use Rattle.run.proofs.Steps.{seat-below, read-below, onward-below, passed-sound}
 use Rattle.player.specs.Answers.{earlyCheck, heldCheck}
 use Rattle.playback.specs.Answers.{spanCheck, passCheck, passOf, takeCheck, takeOf, busyCheck, finishCheck, landedFor, finishOf}
 use Rattle.scheduler.specs.declared.Choice.the-variants as choice
-use Rattle.scheduler.specs.Answers.{chosen, arrived, nextOf, chooseCheck, chosenBy, chooseOf}
+use Rattle.scheduler.specs.Answers.{chosen, arrived, arrivedPast, nextOf, chooseCheck, chosenBy, chooseOf}
 use Rattle.spare.specs.Times.{aheadOf, aheadAt, timeAt, slackTime, placeAt, named, startOrder, running}
 use Rattle.spare.specs.Answers.{workaheadOf, someCheck, slackOf, onceCheck, slackCheck, startCheck, startOf}
 use Rattle.spare.proofs.Orders.{named-length, named-same}
@@ -56,7 +57,7 @@ use Rattle.spare.proofs.Calls.{start-first}
 use Rattle.promises.specs.Runs.{Sized}
 use Rattle.promises.specs.Unseen.{AlikeRuns, SameMoved, SameChosen, SameSpared, SameOpened, Unseen}
 use Rattle.promises.proofs.Runs.{few}
-use Rattle.promises.proofs.Alike.{same-runs, back, room-alike, put-alike, onward-alike, whole-alike, still-sound, sound-same, first-same, moved-same}
+use Rattle.promises.proofs.Alike.{same-runs, back, room-alike, put-alike, onward-alike, left-alike, still-sound, sound-same, first-same, moved-same}
 use Rattle.promises.proofs.Alike.{spared-same, sound-passed, set-alike, states-alike, cycle-alike, session-same, few-too, passed-alike, taken-alike}
 
 -- ---- pass and take
@@ -141,15 +142,15 @@ module _ (r q : Run) (a : AlikeRuns r q) (s : SoundRun r) (some : 0 < playing r)
   unfolding idled
   idled-alike =
       cycle-alike r q a (r .place) (q .place) _ _ (r .underway) (q .underway) (a .place)
-      (whole-alike r q a s (r .place) (s .cycle .turning some .place) ∙ ap (wholeAt q) (a .place)) (a .underway)
+      (left-alike r q a s (r .place) (s .cycle .turning some .place) ∙ ap (leftAt q) (a .place)) (a .underway)
 
-  whole-there : (k : ℕ) → wholeAt r (onward r k) ≡ wholeAt q (onward q k)
-  whole-there k = whole-alike r q a s (onward r k) (onward-below r k some) ∙ ap (wholeAt q) (onward-alike r q a k)
+  left-there : (k : ℕ) → leftAt r (onward r k) ≡ leftAt q (onward q k)
+  left-there k = left-alike r q a s (onward r k) (onward-below r k some) ∙ ap (leftAt q) (onward-alike r q a k)
 
-  begun-alike : (k : ℕ) → AlikeRuns (begun r k) (begun q k)
+  begun-alike : (k : ℕ) → AlikeRuns (begun r (onward r k) (leftPast r k)) (begun q (onward q k) (leftPast q k))
   unfolding begun
   begun-alike k =
-      cycle-alike r q a (onward r k) (onward q k) _ _ _ _ (onward-alike r q a k) (ap₂ (leftAfter k) (a .left) (whole-there k))
+      cycle-alike r q a (onward r k) (onward q k) _ _ _ _ (onward-alike r q a k) (ap₂ (leftAfter k) (a .left) (left-there k))
       (ap underway.Read (seat-alike k))
 
 module _ (r q : Run) (a : AlikeRuns r q) (s : SoundRun r) (some : 0 < playing r) where
@@ -169,20 +170,20 @@ module _ (r q : Run) (a : AlikeRuns r q) (s : SoundRun r) (some : 0 < playing r)
       (room-there q r other other-sound some-too) 0 (playing r)
       ∙ ap (firstFrom (λ k. room? q (seatAt q (onward q k))) 0) (a .show .playing)
 
-  arrived-same : (k : ℕ) → SameChosen (arrived r k) (arrived q k)
+  arrived-same : (k : ℕ) → SameChosen (arrivedPast r k) (arrivedPast q k)
   unfolding arrived
   arrived-same k =
       ite-both SameChosen (put? r (seatAt r (onward r k))) (put? q (seatAt q (onward q k))) _ _ _ _ (put-there r q a s some k)
       (put-there q r other other-sound some-too k) (λ h. (ap choice.Read (seat-alike r q a s some k), begun-alike r q a s some k)) (λ h. (refl, a))
 
   moves-same :
-      SameChosen (ite (decLt (skipped r) (playing r)) (arrived r (skipped r)) (chosen choice.Idle (idled r)))
-      (ite (decLt (skipped q) (playing q)) (arrived q (skipped q)) (chosen choice.Idle (idled q)))
+      SameChosen (ite (decLt (skipped r) (playing r)) (arrivedPast r (skipped r)) (chosen choice.Idle (idled r)))
+      (ite (decLt (skipped q) (playing q)) (arrivedPast q (skipped q)) (chosen choice.Idle (idled q)))
   moves-same =
       let n = a .show .playing in
       let e = skipped-same in
       ite-both SameChosen (decLt (skipped r) (playing r)) (decLt (skipped q) (playing q)) _ _ _ _ (λ h. omega arith) (λ h. omega arith)
-      (λ h. subst (λ (k : ℕ). SameChosen (arrived r (skipped r)) (arrived q k)) e (arrived-same (skipped r)))
+      (λ h. subst (λ (k : ℕ). SameChosen (arrivedPast r (skipped r)) (arrivedPast q k)) e (arrived-same (skipped r)))
       (λ h. (refl, idled-alike r q a s some))
 
 next-same : (r q : Run) → AlikeRuns r q → SoundRun r → SameChosen (nextOf r) (nextOf q)
@@ -212,7 +213,7 @@ unfolding landed counted
 landed-alike r q a s n m i e =
     let f = a .left in
     ite-both AlikeRuns (decLe (r .left) 1) (decLe (q .left) 1) _ _ _ _ (λ h. omega arith) (λ h. omega arith)
-    (λ h. cycle-alike (stored r i) (stored q i) there _ _ _ _ _ _ (onward-alike r q a 1) (whole-there r q a s some 1) refl)
+    (λ h. cycle-alike (stored r i) (stored q i) there _ _ _ _ _ _ (onward-alike r q a 1) (left-there r q a s some 1) refl)
     (λ h. cycle-alike (stored r i) (stored q i) there _ _ _ _ _ _ (a .place) (omega arith) refl)
   where
     below : i < playing r
@@ -318,7 +319,7 @@ module _ (r q : Run) (a : AlikeRuns r q) where
         ∙ ap (λ (j : ℕ). getD (named (placeAt q) j (q .order)) k 0) (a .show .playing)
 
     running-alike : AlikeRuns (running r) (running q)
-    unfolding running
+    unfolding running leftIn
     running-alike =
         let most = s .within .counts .sessions in
         let x = n .order in
@@ -353,10 +354,11 @@ first-alike s t a counts =
     record {
       show = a;
       counts = λ i l. refl;
-      states = λ i l. refl;
+      states = λ i l.
+          (let n = a .playing in first-state-at s i l ∙ ap firstState (a .sessions i l) ∙ sym (first-state-at t i (omega arith)));
       order = λ k l. ap (λ (n : ℕ). getD (tableOrder n) k 0) (a .playing);
       place = refl;
-      left = refl;
+      left = ap (λ (n : ℕ). leftIn counts (tableOrder n) 0) (a .playing);
       underway = refl;
       started = refl;
     }

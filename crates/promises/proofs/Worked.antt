@@ -15,6 +15,7 @@ use Rattle.theory.specs.Sum.{sumTo}
 use Rattle.theory.specs.Floor.{floorZ}
 use Rattle.theory.specs.Slack.{less?, leastTo, slackBy, same?, before?, rank}
 use Rattle.verdict.specs.Answers.{DecisionIs}
+use Rattle.run.specs.Run.{leftIn}
 use Rattle.run.specs.Sound.{SoundRun}
 use Rattle.run.specs.Decisions.{below?, some?, show?, good?, false?, true?, waiting?, state?, named?, nothing?, room?, put?, mayRead?, underway?, cycle?, sound?}
 use Rattle.run.specs.Steps.{changed, passed}
@@ -62,7 +63,7 @@ unfolding told sound? show? good? below? state? named? some? cycle? false? true?
 uneven-sound = from-told (sound? uneven) tt
 
 pub uneven-starts : DecisionIs (showOf X (clip ∷ faster ∷ [])) (yes-with 94000 (1 ∷ 2 ∷ []) (42000 ∷ 52000 ∷ [])) → Uneven
-unfolding floorZ leastTo slackBy before? rank less? same? ℕ-discrete sumTo costOf worstTime edges ceil listed decLe decLt named running
+unfolding floorZ leastTo slackBy before? rank less? same? ℕ-discrete sumTo costOf worstTime edges ceil listed decLe decLt named running leftIn
 uneven-starts decided =
     let begins = start-begins uneven uneven-sound refl refl _ (omega arith) (begin-granted uneven (running uneven) (λ n. absurd (n .lt)) refl) in
     record {

@@ -14,7 +14,7 @@ use Rattle.run.specs.declared.Underway.{Underway}
 use Rattle.run.specs.declared.Underway.the-variants as underway
 use Rattle.run.specs.declared.Run.{Run}
 use Rattle.run.specs.declared.Opened.{Opened}
-use Rattle.run.specs.Run.{playing, seatAt, Room, putMost, withCycle}
+use Rattle.run.specs.Run.{playing, seatAt, leftIn, Room, putMost, withCycle}
 use Rattle.run.specs.Sound.{StateSound}
 use Rattle.run.specs.Opening.{OpenIs}
 use Rattle.run.specs.Laws.{Ahead}
@@ -55,6 +55,8 @@ pub record OfRun : Type 0 where
   pub room-without-the-block : Tells true (Room 51200 (buffered 102401) (loaded 102400)) → ⊥
   -- `Run::with_cycle`: what was left
   pub left-as-it-was : withCycle eighth 0 1 underway.Nothing .left ≡ eighth .left → ⊥
+  -- `left_in`: one block of the count used up when its operation begins
+  pub one-used-up : leftIn (3 ∷ 2 ∷ []) (0 ∷ 1 ∷ []) 0 ≡ 2 → ⊥
   -- `open`, of p3: a cycle that begins past the last session
   pub order-past-the-last : (o : Opened) → OpenIs (showOf X (replicate 3 clip)) o → seatAt (o .run) 0 ≡ 3 → ⊥
 

@@ -5,11 +5,11 @@ use mathlib.Core.Bool.{Bool}
 use mathlib.Core.List.{List}
 use native.Mathlib.Nat.{le-refl}
 use native.Mathlib.Omega.{arith}
-use lib.ListN.{length, getD, getD-replicate, length-append, length-replicate}
+use lib.ListN.{length, getD, replicate, getD-replicate, length-append, length-replicate}
 use Rattle.show.specs.declared.Session.{Session}
 use Rattle.show.specs.declared.Show.{Show}
 use Rattle.show.specs.declared.refusal.Check.the-variants.{Within}
-use Rattle.show.specs.Limits.{Between, ShowWithin}
+use Rattle.show.specs.Limits.{Between, ShowWithin, sessionAt}
 use Rattle.show.specs.Lists.{listed, padded}
 use Rattle.show.proofs.Checks.{within-refused}
 use Rattle.show.proofs.Lists.{listed-length, filled-none, filled-at}
@@ -24,10 +24,11 @@ use Rattle.verdict.proofs.Sets.{set-of-row}
 use Rattle.verdict.proofs.Decisions.{accepted-set}
 use Rattle.run.specs.declared.Run.{Run}
 use Rattle.run.specs.declared.Opened.{Opened}
-use Rattle.run.specs.Run.{noState}
+use Rattle.run.specs.Run.{noState, firstState, leftIn}
 use Rattle.run.specs.Sound.{StateSound, NamesEach, SoundRun}
-use Rattle.run.specs.Opening.{tableOrder, firstRun, openedBy, OpenIs}
+use Rattle.run.specs.Opening.{tableOrder, firstStates, firstRun, openedBy, OpenIs}
 use Rattle.run.proofs.Orders.{apart-names}
+use Rattle.run.proofs.Lefts.{left-within}
 use Rattle.run.proofs.Steps.{nothing-read}
 
 table-at : (n k : ℕ) → k < n → getD (tableOrder n) k 0 ≡ k
@@ -41,8 +42,17 @@ table-names : (n : ℕ) → NamesEach (tableOrder n) n
 table-names n =
     apart-names (tableOrder n) n (λ k l. rw (table-at n k l) l) (λ j k a b e. sym (table-at n j a) ∙ e ∙ table-at n k b)
 
-none-sound : (started : Bool) (x : Session) → StateSound started x noState
-none-sound started x =
+-- ---- the first states
+
+pub first-state-at : (s : Show) (i : ℕ) → i < s .playing → getD (firstStates s) i noState ≡ firstState (sessionAt s i)
+first-state-at s i l = filled-at 16 noState (λ i. firstState (sessionAt s i)) (s .playing) i noState l
+
+pub first-states-length : (s : Show) → s .playing ≤ 16 → length (firstStates s) ≡ 16
+unfolding padded
+first-states-length s h = rw (length-append, listed-length (λ (i : ℕ). firstState (sessionAt s i)) (s .playing), length-replicate) (omega arith)
+
+first-state-sound : (started : Bool) (x : Session) → StateSound started x (firstState x)
+first-state-sound started x =
     record {
       put = omega arith;
       taken = omega arith;
@@ -51,9 +61,15 @@ none-sound started x =
       early = λ e. record { taken = refl; clock = refl };
     }
 
--- Of an empty show nothing is left of the first count: there is none.
+-- ---- the first run
+
 row-empty : (n : ℕ) (m : ℕ → ℕ) → n ≡ 0 → getD (padded 16 0 (listed m n)) 0 0 ≡ 0
 row-empty n m e = rw (e, ← filled-none 16 0 m)
+
+-- Of an empty show nothing is left of the first count: there is none.
+left-empty : (n : ℕ) (m : ℕ → ℕ) → n ≡ 0 → leftIn (padded 16 0 (listed m n)) (tableOrder n) 0 ≡ 0
+unfolding leftIn
+left-empty n m e = ap (λ (k : ℕ). setOf (padded 16 0 (listed m n)) k) (row-empty n (λ i. i) e) ∙ row-empty n m e
 
 pub first-sound : (s : Show) (m : ℕ → ℕ) → ShowWithin s → Good (loadOf s) m → SoundRun (firstRun s (row (loadOf s) m))
 unfolding firstRun
@@ -61,24 +77,24 @@ first-sound s m w g =
     record {
       within = w;
       counts = good;
-      states = λ i l. rw (getD-replicate 16 i noState noState (few i l)) (none-sound _ _);
+      states = λ i l. rw (first-state-at s i l) (first-state-sound _ _);
       order = table-names (s .playing);
       cycle =
           record {
-            empty = λ e. record { place = refl; left = row-empty (s .playing) m e; underway = refl };
-            turning = λ l. record { place = l; left = rw (table-at (s .playing) 0 l) (first l) };
+            empty = λ e. record { place = refl; left = left-empty (s .playing) m e; underway = refl };
+            turning = λ l. record { place = l; left = first l };
             underway = λ i e. nothing-read e;
           };
     }
   where
-    few : (i : ℕ) → i < s .playing → i < 16
-    few i l = let h = w .counts .sessions in omega arith
-
     good : Good (loadOf s) (setOf (row (loadOf s) m))
     good = good-same (loadOf s) m _ (λ i l. sym (set-of-row (loadOf s) m i l)) g
 
-    first : 0 < s .playing → Between 1 (setOf (row (loadOf s) m) 0) (setOf (row (loadOf s) m) 0)
-    first l = record { low = good .counted 0 l; high = le-refl _ }
+    counts : List ℕ
+    counts = row (loadOf s) m
+
+    first : 0 < s .playing → Between 1 (leftIn counts (tableOrder (s .playing)) 0) (setOf counts (getD (tableOrder (s .playing)) 0 0))
+    first l = left-within counts (tableOrder (s .playing)) 0 (rw (table-at (s .playing) 0 l) (good .counted 0 l))
 
 -- ---- what is opened
 

@@ -2,6 +2,7 @@ pub mod States
 pub mod Orders
 pub mod Opening
 pub mod Changed
+pub mod Lefts
 pub mod Searches
 pub mod Steps
 pub mod Seats

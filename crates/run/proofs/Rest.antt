@@ -72,9 +72,9 @@ module _ (r : Run) where
   unfolding idled
   idled-kept = cycle-kept r _ _ _ (same-kept r)
 
-  pub begun-kept : (k : ℕ) → Kept r (begun r k)
+  pub begun-kept : (place left : ℕ) → Kept r (begun r place left)
   unfolding begun
-  begun-kept k = cycle-kept r _ _ _ (same-kept r)
+  begun-kept place left = cycle-kept r _ _ _ (same-kept r)
 
   pub landed-kept : (i : ℕ) → i < playing r → Kept r (landed r i)
   unfolding landed counted

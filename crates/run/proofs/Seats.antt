@@ -17,16 +17,18 @@ sound-seated r s l =
     }
 
 module _ (r : Run) (h : Seated r) where
+  pub onward-in : (k : ℕ) → onward r k < playing r
+  onward-in k = onward-below r k (h .some .low)
+
   pub onward-few : (k : ℕ) → onward r k < 16
-  onward-few k = let b = onward-below r k (h .some .low) in let n = h .some .high in omega arith
+  onward-few k = let b = onward-in k in let n = h .some .high in omega arith
 
   pub seat-few : (k : ℕ) → k < playing r → seatAt r k < 16
   seat-few k l = let b = h .seats k l in let n = h .some .high in omega arith
 
   pub ahead-few : (k : ℕ) → seatAt r (onward r k) < 16
-  ahead-few k = seat-few (onward r k) (onward-below r k (h .some .low))
+  ahead-few k = seat-few (onward r k) (onward-in k)
 
--- P of a session some places on is within its limit.
-pub ahead-put : (r : Run) → SoundRun r → Seated r → (k : ℕ) → stateAt r (seatAt r (onward r k)) .put ≤ putMost
-ahead-put r s h k =
-    s .states (seatAt r (onward r k)) (h .seats (onward r k) (onward-below r k (h .some .low))) .put
+-- P of the session at a place is within its limit.
+pub seat-put : (r : Run) → SoundRun r → (k : ℕ) → k < playing r → stateAt r (seatAt r k) .put ≤ putMost
+seat-put r s k l = s .states (seatAt r k) (seat-below r s k l) .put

@@ -14,14 +14,15 @@ use Rattle.run.specs.declared.State.{State}
 use Rattle.run.specs.declared.Underway.{Underway}
 use Rattle.run.specs.declared.Underway.the-variants.{Nothing, Read}
 use Rattle.run.specs.declared.Run.{Run}
-use Rattle.run.specs.Run.{playing, noState, stateAt, clipAt, seatAt, wholeAt, onward, putMost, Room, RoomAt, PutAt}
+use Rattle.run.specs.Run.{playing, noState, stateAt, clipAt, seatAt, wholeAt, leftAt, onward, putMost, Room, RoomAt, PutAt}
 use Rattle.run.specs.Run.{withStates, withCycle}
 use Rattle.run.specs.Sound.{StateSound, StatesSound, Turning, Resting, MayRead, SoundRun}
-use Rattle.run.specs.Steps.{ticked, tickedAt, statesAfter, passed, drawn, drawnAt, idled, leftAfter, begun}
+use Rattle.run.specs.Steps.{ticked, tickedAt, statesAfter, passed, drawn, drawnAt, idled, leftPast, begun}
 use Rattle.run.specs.Steps.{filled, stored, counted, landed}
 use Rattle.run.proofs.States.{true-false}
 use Rattle.run.proofs.Orders.{names-below}
 use Rattle.run.proofs.Changed.{changed-below, set-each}
+use Rattle.run.proofs.Lefts.{left-within}
 
 pub nothing-read : {X : Type 0} {i : ℕ} → Nothing ≡ Read i → X
 nothing-read e = let z : _≡_ {A = ℕ} 0 1 = cc in absurd (let f : ⊥ = omega arith in f)
@@ -94,8 +95,9 @@ module _ (r : Run) (s : SoundRun r) where
   whole-some : (k : ℕ) → k < playing r → 1 ≤ wholeAt r k
   whole-some k l = s .counts .counted (seatAt r k) (seat-below k l)
 
-  whole : (k : ℕ) → k < playing r → Between 1 (wholeAt r k) (wholeAt r k)
-  whole k l = record { low = whole-some k l; high = le-refl _ }
+  -- An operation that begins has something left, and no more than the count.
+  left-at : (k : ℕ) → k < playing r → Between 1 (leftAt r k) (wholeAt r k)
+  left-at k l = left-within (r .counts) (r .order) k (whole-some k l)
 
   -- A read is under way only on a session that plays.
   pub read-below : (i : ℕ) → r .underway ≡ Read i → i < playing r
@@ -189,36 +191,32 @@ pub idled-sound : (r : Run) → SoundRun r → 0 < playing r → SoundRun (idled
 unfolding idled
 idled-sound r s l =
     let place = s .cycle .turning l .place in
-    moved-sound r s (r .states) (r .place) (wholeAt r (r .place)) (r .underway) (s .states) place (whole r s (r .place) place)
+    moved-sound r s (r .states) (r .place) (leftAt r (r .place)) (r .underway) (s .states) place (left-at r s (r .place) place)
     (λ i e. (let m = s .cycle .underway i e in record { seat = m .seat; room = m .room; put = m .put }))
 
 pub begun-sound :
-    (r : Run) (k : ℕ) → SoundRun r → k < playing r → RoomAt r (seatAt r (onward r k)) → PutAt r (seatAt r (onward r k)) →
-    SoundRun (begun r k)
+    (r : Run) (place left : ℕ) → SoundRun r → place < playing r → Between 1 left (wholeAt r place) → RoomAt r (seatAt r place) →
+    PutAt r (seatAt r place) → SoundRun (begun r place left)
 unfolding begun
-begun-sound r k s l room most =
-    moved-sound r s (r .states) (onward r k) _ (Read (seatAt r (onward r k))) (s .states)
-    (onward-below r k some) (left k)
-    (λ i e. (let f : i ≡ seatAt r (onward r k) = cc in record { seat = f; room = rw f room; put = rw f most }))
-  where
-    some : 0 < playing r
-    some = omega arith
+begun-sound r place left s inside b room most =
+    moved-sound r s (r .states) place left (Read (seatAt r place)) (s .states) inside b
+    (λ i e. (let f : i ≡ seatAt r place = cc in record { seat = f; room = rw f room; put = rw f most }))
 
-    -- where none is skipped the place stays, and what is left there
-    left : (k : ℕ) → Between 1 (leftAfter k (r .left) (wholeAt r (onward r k))) (wholeAt r (onward r k))
-    left zero =
-        let c = s .cycle .turning some in
-        let f : r .place + 0 ≡ r .place = omega arith in
-        let e : onward r 0 ≡ r .place = rw f (mod-eq-of-lt (c .place)) in
-        rw e (c .left)
-    left (suc k) = whole r s (onward r (suc k)) (onward-below r (suc k) some)
+-- Where none is skipped the place stays, and what is left there.
+pub past-within : (r : Run) (k : ℕ) → SoundRun r → 0 < playing r → Between 1 (leftPast r k) (wholeAt r (onward r k))
+past-within r zero s some =
+    let c = s .cycle .turning some in
+    let f : r .place + 0 ≡ r .place = omega arith in
+    let e : onward r 0 ≡ r .place = rw f (mod-eq-of-lt (c .place)) in
+    rw e (c .left)
+past-within r (suc k) s some = left-at r s (onward r (suc k)) (onward-below r (suc k) some)
 
 pub landed-sound :
     (r : Run) (i : ℕ) → playing r ≤ length (r .states) → SoundRun r → r .underway ≡ Read i → SoundRun (landed r i)
 unfolding landed counted
 landed-sound r i n s e =
     ite-either SoundRun (decLe (r .left) 1) _ _
-    (λ l. moved-sound r s _ (onward r 1) _ Nothing states next (whole r s (onward r 1) next) (λ k f. nothing-read f))
+    (λ l. moved-sound r s _ (onward r 1) _ Nothing states next (left-at r s (onward r 1) next) (λ k f. nothing-read f))
     (λ l. moved-sound r s _ (r .place) _ Nothing states (cycle .place) (fewer l) (λ k f. nothing-read f))
   where
     below : i < playing r

@@ -3,34 +3,39 @@ use Prim.Native.Nat.{ℕ}
 use mathlib.Core.Path.{_≡_}
 use mathlib.Core.Bool.{false}
 use mathlib.Core.List.{List}
-use lib.ListN.{getD, replicate}
+use lib.ListN.{replicate}
 use Rattle.show.specs.declared.Show.{Show}
 use Rattle.show.specs.declared.refusal.Check.the-variants.{Within, Refused}
-use Rattle.show.specs.Limits.{noShow}
+use Rattle.show.specs.Limits.{noShow, sessionAt}
 use Rattle.show.specs.Lists.{listed, padded}
 use Rattle.verdict.specs.declared.Decision.{Decision}
 use Rattle.verdict.specs.declared.Verdict.{Verdict}
 use Rattle.verdict.specs.declared.Verdict.the-variants as verdict
 use Rattle.verdict.specs.Answers.{DecisionIs}
+use Rattle.run.specs.declared.State.{State}
 use Rattle.run.specs.declared.Underway.the-variants.{Nothing}
 use Rattle.run.specs.declared.Run.{Run}
 use Rattle.run.specs.declared.Opened.{Opened}
-use Rattle.run.specs.Run.{noState}
+use Rattle.run.specs.Run.{noState, firstState, leftIn}
 
 -- 0, 1, .., and zeros above
 abbrev pub tableOrder : ℕ → List ℕ
 tableOrder n = padded 16 0 (listed (λ i. i) n)
 
--- P, G and C are 0; the cycle is in table order at its first session, whose whole count is left; nothing is under way; not started.
+-- each session's first state, and zeros above
+abbrev pub firstStates : Show → List State
+firstStates s = padded 16 noState (listed (λ i. firstState (sessionAt s i)) (s .playing))
+
+-- The cycle is in table order at its first session, where an operation is to begin; nothing is under way; not started.
 unfoldable pub firstRun : Show → List ℕ → Run
 firstRun s counts =
     record {
       show = s;
       counts = counts;
-      states = replicate 16 noState;
+      states = firstStates s;
       order = tableOrder (s .playing);
       place = 0;
-      left = getD counts 0 0;
+      left = leftIn counts (tableOrder (s .playing)) 0;
       underway = Nothing;
       started = false;
     }

@@ -17,6 +17,10 @@ playing r = r .show .playing
 abbrev pub noState : State
 noState = record { put = 0; taken = 0; clock = 0 }
 
+-- A session's state when its show is opened: nothing put, taken or played.
+abbrev pub firstState : Session → State
+firstState x = noState
+
 abbrev pub stateAt : Run → ℕ → State
 stateAt r i = getD (r .states) i noState
 
@@ -33,6 +37,14 @@ seatAt r k = getD (r .order) k 0
 
 abbrev pub wholeAt : Run → ℕ → ℕ
 wholeAt r k = countAt r (seatAt r k)
+
+-- What is left of a count when an operation begins at place k of an order: the whole count of the session there. Opening, Idle, start and
+-- the end of an operation all go by this.
+unfoldable pub leftIn : List ℕ → List ℕ → ℕ → ℕ
+leftIn counts order k = setOf counts (getD order k 0)
+
+abbrev pub leftAt : Run → ℕ → ℕ
+leftAt r k = leftIn (r .counts) (r .order) k
 
 -- the place k places on; after the last comes the first
 abbrev pub onward : Run → ℕ → ℕ

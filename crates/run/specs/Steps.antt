@@ -8,7 +8,7 @@ use lib.ListN.{getD, set}
 use Rattle.run.specs.declared.State.{State}
 use Rattle.run.specs.declared.Underway.the-variants.{Nothing, Read}
 use Rattle.run.specs.declared.Run.{Run}
-use Rattle.run.specs.Run.{playing, noState, stateAt, clipAt, seatAt, wholeAt, onward, withStates, withCycle}
+use Rattle.run.specs.Run.{playing, noState, stateAt, clipAt, seatAt, leftAt, onward, withStates, withCycle}
 use Rattle.run.specs.Decisions.{room?}
 
 -- each of the first n states changed by its number, the others as they were
@@ -38,9 +38,9 @@ drawn n s = record { put = s .put; taken = s .taken + n; clock = s .clock }
 unfoldable pub drawnAt : Run → ℕ → ℕ → Run
 drawnAt r i n = withStates r (set (r .states) i (drawn n (stateAt r i)))
 
--- Nobody has room: the place stays and has its whole count left again.
+-- Nobody has room: the place stays, and an operation is to begin there.
 unfoldable pub idled : Run → Run
-idled r = withCycle r (r .place) (wholeAt r (r .place)) (r .underway)
+idled r = withCycle r (r .place) (leftAt r (r .place)) (r .underway)
 
 -- the first of n numbers from k on of which p holds; k + n if there is none
 unfoldable pub firstFrom : {p : ℕ → Type 0} → ((k : ℕ) → Dec (p k)) → ℕ → ℕ → ℕ
@@ -51,15 +51,17 @@ firstFrom d k (suc n) = ite (d k) k (firstFrom d (k + 1) n)
 unfoldable pub skipped : Run → ℕ
 skipped r = firstFrom (λ k. room? r (seatAt r (onward r k))) 0 (playing r)
 
--- what is left after k were skipped: the whole count if any was
+-- what is left after k were skipped: a fresh operation's if any was
 abbrev pub leftAfter : ℕ → ℕ → ℕ → ℕ
-leftAfter zero left whole = left
-leftAfter (suc k) left whole = whole
+leftAfter zero left fresh = left
+leftAfter (suc k) left fresh = fresh
 
--- The first k sessions from the place on are skipped; the read of the next is under way.
-unfoldable pub begun : Run → ℕ → Run
-begun r k =
-    withCycle r (onward r k) (leftAfter k (r .left) (wholeAt r (onward r k))) (Read (seatAt r (onward r k)))
+abbrev pub leftPast : Run → ℕ → ℕ
+leftPast r k = leftAfter k (r .left) (leftAt r (onward r k))
+
+-- The read of the session at a place is under way, with so many left.
+unfoldable pub begun : Run → ℕ → ℕ → Run
+begun r place left = withCycle r place left (Read (seatAt r place))
 
 -- A block has come for session i.
 abbrev pub filled : ℕ → State → State
@@ -68,10 +70,10 @@ filled block s = record { put = s .put + block; taken = s .taken; clock = s .clo
 abbrev pub stored : Run → ℕ → Run
 stored r i = withStates r (set (r .states) i (filled (r .show .drive .block) (stateAt r i)))
 
--- One block fewer is left; at none left the cycle moves on, with the next session's whole count.
+-- One block fewer is left; at none left the cycle moves on, and an operation is to begin there.
 unfoldable pub counted : Run → Run
 counted r =
-    ite (decLe (r .left) 1) (withCycle r (onward r 1) (wholeAt r (onward r 1)) Nothing)
+    ite (decLe (r .left) 1) (withCycle r (onward r 1) (leftAt r (onward r 1)) Nothing)
     (withCycle r (r .place) (r .left - 1) Nothing)
 
 unfoldable pub landed : Run → ℕ → Run

@@ -2,9 +2,9 @@
 ghost use mathlib.Core.Path.{_≡_};
 ghost use Prim.Native.Nat.{_≤_};
 ghost use Rattle.show.specs.Limits.{Tells};
-ghost use Rattle.run.specs.Run.{Room, withCycle};
+ghost use Rattle.run.specs.Run.{Room, firstState, leftIn, withCycle};
 ghost use Rattle.run.specs.Sound.{Waiting, StateSound};
-ghost use Rattle.run.specs.Opening.{OpenIs, tableOrder, firstRun, noRun};
+ghost use Rattle.run.specs.Opening.{OpenIs, tableOrder, firstStates, firstRun, noRun};
 use show::Session;
 use show::Show;
 use show::refusal::Check;
@@ -137,6 +137,21 @@ pub struct Opened {
     pub run: Run,
 }
 
+// What is left of a count when an operation begins at a place of an order. Past the last place stands session 0; a number that is no
+// session's has no count, and 0 is left.
+pub fn left_in(counts: [u32; 16], order: [u32; 16], place: usize) -> u32
+    ensures { λ r. ⌜ r ≡ leftIn counts order place ⌝ }
+{
+    if 16 <= place {
+        return counts[0];
+    }
+    let seat = order[place] as usize;
+    if 16 <= seat {
+        return 0;
+    }
+    counts[seat]
+}
+
 // The run of an accepted show: 2, 5, 6, 7, 8.
 pub fn open(show: Show) -> Opened
     ensures { λ r. ⌜ OpenIs show r ⌝ }
@@ -156,24 +171,50 @@ pub fn open(show: Show) -> Opened
     }
 }
 
-// Nothing put, taken or under way, and the whole count of the first session left.
-fn first_run(show: Show, counts: [u32; 16]) -> Run
+// A session begins empty, its clock at 0.
+fn first_state(session: Session) -> State
+    ensures { λ r. ⌜ r ≡ firstState session ⌝ }
+{
+    State {
+        put: 0,
+        taken: 0,
+        clock: 0,
+    }
+}
+
+fn first_states(show: Show) -> [State; 16]
     requires { ⌜ show .playing ≤ 16 ⌝ }
-    ensures { λ r. ⌜ r ≡ firstRun show counts ⌝ }
+    ensures { λ r. ⌜ r ≡ firstStates show ⌝ }
 {
     let none = State {
         put: 0,
         taken: 0,
         clock: 0,
     };
+    let mut states: [State; 16] = [none; 16];
+    let mut i: usize = 0;
+    while i < show.playing {
+        states[i] = first_state(show.sessions[i]);
+        i += 1;
+    }
+    states
+}
+
+// Each session in its first state, nothing under way, and an operation to begin at the first place.
+fn first_run(show: Show, counts: [u32; 16]) -> Run
+    requires { ⌜ show .playing ≤ 16 ⌝ }
+    ensures { λ r. ⌜ r ≡ firstRun show counts ⌝ }
+{
+    let states = first_states(show);
     let order = table_order(show.playing);
+    let left = left_in(counts, order, 0);
     Run {
         show,
         counts,
-        states: [none; 16],
+        states,
         order,
         place: 0,
-        left: counts[0],
+        left,
         underway: Underway::Nothing,
         started: false,
     }

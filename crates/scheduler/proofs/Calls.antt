@@ -16,7 +16,7 @@ use Rattle.run.specs.Steps.{skipped, idled}
 use Rattle.run.proofs.Answered.{damaged-first, sound-then}
 use Rattle.scheduler.specs.declared.Choice.the-variants as choice
 use Rattle.scheduler.specs.declared.Chosen.{Chosen}
-use Rattle.scheduler.specs.Answers.{chosen, arrived, nextOf, chooseCheck, chosenBy, chooseOf}
+use Rattle.scheduler.specs.Answers.{chosen, arrivedPast, nextOf, chooseCheck, chosenBy, chooseOf}
 
 module _ (r : Run) where
   by-check : (k : Check) → chooseCheck r ≡ k → chosenBy k r ≡ chooseOf r
@@ -49,7 +49,7 @@ module _ (r : Run) where
             ∙ sym (if-neg (ℕ-discrete (playing r) 0) z _ _ ∙ if-neg (decLt (skipped r) (playing r)) (λ g. let b : ⊥ = omega arith in b) _ _)
             ∙ free
 
-        pub choose-next : (a : Chosen) → skipped r < playing r → a ≡ arrived r (skipped r) → a ≡ chooseOf r
+        pub choose-next : (a : Chosen) → skipped r < playing r → a ≡ arrivedPast r (skipped r) → a ≡ chooseOf r
         unfolding nextOf
         choose-next a l f =
             f ∙ sym (if-neg (ℕ-discrete (playing r) 0) z _ _ ∙ if-pos (decLt (skipped r) (playing r)) l _ _) ∙ free

@@ -6,12 +6,13 @@ use native.Mathlib.Omega.{arith}
 use Rattle.show.specs.declared.refusal.Refusal.the-variants.{PutLimit}
 use Rattle.run.specs.declared.Underway.the-variants.{Read}
 use Rattle.run.specs.declared.Run.{Run}
-use Rattle.run.specs.Run.{playing, seatAt, wholeAt, onward, RoomAt, PutAt, withCycle}
+use Rattle.run.specs.Run.{playing, seatAt, leftAt, onward, RoomAt, PutAt, withCycle}
 use Rattle.run.specs.Decisions.{room?, put?}
 use Rattle.run.specs.Steps.{firstFrom, skipped, leftAfter, begun}
 use Rattle.run.proofs.Searches.{first-hit, first-on, first-none, first-all}
 use Rattle.scheduler.specs.declared.Choice.the-variants as choice
-use Rattle.scheduler.specs.Answers.{chosen, arrived}
+use Rattle.scheduler.specs.declared.Chosen.{Chosen}
+use Rattle.scheduler.specs.Answers.{chosen, arrived, arrivedPast}
 
 -- ---- who is skipped
 
@@ -36,27 +37,31 @@ module _ (r : Run) where
 
 -- ---- where choose arrives
 
-pub left-kept : (k left whole : ℕ) → k ≤ 0 → left ≡ leftAfter k left whole
-left-kept zero left whole l = refl
-left-kept (suc k) left whole l = absurd (let f : ⊥ = omega arith in f)
+pub left-kept : (k left fresh : ℕ) → k ≤ 0 → left ≡ leftAfter k left fresh
+left-kept zero left fresh l = refl
+left-kept (suc k) left fresh l = absurd (let f : ⊥ = omega arith in f)
 
-pub left-whole : (k left whole : ℕ) → 0 < k → whole ≡ leftAfter k left whole
-left-whole zero left whole l = absurd (let f : ⊥ = omega arith in f)
-left-whole (suc k) left whole l = refl
+pub left-fresh : (k left fresh : ℕ) → 0 < k → fresh ≡ leftAfter k left fresh
+left-fresh zero left fresh l = absurd (let f : ⊥ = omega arith in f)
+left-fresh (suc k) left fresh l = refl
 
 module _ (r : Run) where
-  module _ (k : ℕ) where
+  module _ (place left : ℕ) where
     abbrev here : ℕ
-    here = seatAt r (onward r k)
+    here = seatAt r place
 
-    pub arrives-late : (PutAt r here → ⊥) → chosen (choice.Refused PutLimit) r ≡ arrived r k
+    pub arrives-late : (PutAt r here → ⊥) → chosen (choice.Refused PutLimit) r ≡ arrived r place left
     unfolding arrived
     arrives-late n = sym (if-neg (put? r here) n _ _)
 
-    pub arrives :
-        (left : ℕ) (q : Run) → PutAt r here → left ≡ leftAfter k (r .left) (wholeAt r (onward r k)) → q ≡ withCycle r (onward r k) left (Read here) →
-        chosen (choice.Read here) q ≡ arrived r k
+    pub arrives : PutAt r here → chosen (choice.Read here) (withCycle r place left (Read here)) ≡ arrived r place left
     unfolding arrived begun
-    arrives left q p e f =
-        ap (chosen (choice.Read here)) (f ∙ ap (λ (n : ℕ). withCycle r (onward r k) n (Read here)) e)
-        ∙ sym (if-pos (put? r here) p _ _)
+    arrives p = sym (if-pos (put? r here) p _ _)
+
+  pub arrives-past :
+      (k fresh left : ℕ) (a : Chosen) → fresh ≡ leftAt r (onward r k) → left ≡ leftAfter k (r .left) fresh →
+      a ≡ arrived r (onward r k) left → k ≡ skipped r → a ≡ arrivedPast r (skipped r)
+  arrives-past k fresh left a e f g h =
+      g
+      ∙ ap (λ (n : ℕ). arrived r (onward r k) n) (f ∙ ap (λ (n : ℕ). leftAfter k (r .left) n) e)
+      ∙ ap (λ (n : ℕ). arrivedPast r n) h

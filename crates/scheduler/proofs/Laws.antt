@@ -15,16 +15,16 @@ use Rattle.run.specs.Run.{playing, seatAt, onward, PutAt}
 use Rattle.run.specs.Sound.{SoundRun}
 use Rattle.run.specs.Decisions.{put?, soundCheck}
 use Rattle.run.specs.Answers.{freeCheck}
-use Rattle.run.specs.Steps.{skipped, idled, begun}
+use Rattle.run.specs.Steps.{skipped, idled, leftPast, begun}
 use Rattle.run.specs.Laws.{Kept, Ahead}
 use Rattle.run.proofs.Searches.{skipped-room}
-use Rattle.run.proofs.Steps.{ite-either, idled-sound, begun-sound}
+use Rattle.run.proofs.Steps.{ite-either, onward-below, idled-sound, begun-sound, past-within}
 use Rattle.run.proofs.Answered.{free-nothing}
 use Rattle.run.proofs.Full.{idle-full}
 use Rattle.run.proofs.Rest.{same-kept, idled-kept, begun-kept}
 use Rattle.scheduler.specs.declared.Choice.the-variants as choice
 use Rattle.scheduler.specs.declared.Chosen.{Chosen}
-use Rattle.scheduler.specs.Answers.{chosen, arrived, nextOf, chooseCheck, chosenBy, chooseOf}
+use Rattle.scheduler.specs.Answers.{chosen, arrived, arrivedPast, nextOf, chooseCheck, chosenBy, chooseOf}
 
 -- What choose can answer, and what each answer rests on.
 data Answered (r : Run) : Chosen → Type 0 where
@@ -33,10 +33,10 @@ data Answered (r : Run) : Chosen → Type 0 where
   idle : 0 < playing r → playing r ≤ skipped r → Answered r (chosen choice.Idle (idled r))
   read :
       skipped r < playing r → PutAt r (seatAt r (onward r (skipped r))) →
-      Answered r (chosen (choice.Read (seatAt r (onward r (skipped r)))) (begun r (skipped r)))
+      Answered r (chosen (choice.Read (seatAt r (onward r (skipped r)))) (begun r (onward r (skipped r)) (leftPast r (skipped r))))
 
 module _ (r : Run) where
-  arrives : skipped r < playing r → Answered r (arrived r (skipped r))
+  arrives : skipped r < playing r → Answered r (arrivedPast r (skipped r))
   unfolding arrived
   arrives l =
       ite-either (Answered r) (put? r (seatAt r (onward r (skipped r)))) _ _ (λ p. read l p) (λ n. refused PutLimit)
@@ -62,7 +62,9 @@ choice-sound : (r : Run) → SoundRun r → (c : Chosen) → Answered r c → So
 choice-sound r s c (refused w) = s
 choice-sound r s c (empty e) = s
 choice-sound r s c (idle l g) = idled-sound r s l
-choice-sound r s c (read l p) = begun-sound r (skipped r) s l (skipped-room r l) p
+choice-sound r s c (read l p) =
+    let some : 0 < playing r = omega arith in
+    begun-sound r _ _ s (onward-below r (skipped r) some) (past-within r (skipped r) s some) (skipped-room r l) p
 
 pub choose-sound : (r : Run) → SoundRun r → SoundRun (chooseOf r .run)
 choose-sound r s = choice-sound r s (chooseOf r) (answered r)
@@ -71,7 +73,7 @@ choice-kept : (r : Run) (c : Chosen) → Answered r c → Kept r (c .run)
 choice-kept r c (refused w) = same-kept r
 choice-kept r c (empty e) = same-kept r
 choice-kept r c (idle l g) = idled-kept r
-choice-kept r c (read l p) = begun-kept r (skipped r)
+choice-kept r c (read l p) = begun-kept r _ _
 
 pub choose-kept : (r : Run) → Kept r (chooseOf r .run)
 choose-kept r = choice-kept r (chooseOf r) (answered r)

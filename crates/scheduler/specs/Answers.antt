@@ -13,7 +13,7 @@ use Rattle.run.specs.declared.Run.{Run}
 use Rattle.run.specs.Run.{playing, seatAt, onward}
 use Rattle.run.specs.Decisions.{put?, soundCheck}
 use Rattle.run.specs.Answers.{freeCheck}
-use Rattle.run.specs.Steps.{skipped, idled, begun}
+use Rattle.run.specs.Steps.{skipped, idled, leftPast, begun}
 use Rattle.scheduler.specs.declared.Choice.{Choice}
 use Rattle.scheduler.specs.declared.Choice.the-variants as choice
 use Rattle.scheduler.specs.declared.Chosen.{Chosen}
@@ -21,17 +21,21 @@ use Rattle.scheduler.specs.declared.Chosen.{Chosen}
 abbrev pub chosen : Choice → Run → Chosen
 chosen c r = record { choice = c; run = r }
 
--- the session arrived at when k were skipped: 14, with the run as it was, if one more block would pass the limit on P
-unfoldable pub arrived : Run → ℕ → Chosen
-arrived r k =
-    ite (put? r (seatAt r (onward r k))) (chosen (choice.Read (seatAt r (onward r k))) (begun r k))
+-- the read of the session at a place, with so many left: 14, with the run as it was, if one more block would pass the limit on P
+unfoldable pub arrived : Run → ℕ → ℕ → Chosen
+arrived r place left =
+    ite (put? r (seatAt r place)) (chosen (choice.Read (seatAt r place)) (begun r place left))
     (chosen (choice.Refused refusal.PutLimit) r)
+
+-- .. where the first k are skipped
+abbrev pub arrivedPast : Run → ℕ → Chosen
+arrivedPast r k = arrived r (onward r k) (leftPast r k)
 
 -- Idle if everyone is skipped; an empty show is Idle, and stays as it is.
 unfoldable pub nextOf : Run → Chosen
 nextOf r =
     ite (ℕ-discrete (playing r) 0) (chosen choice.Idle r)
-    (ite (decLt (skipped r) (playing r)) (arrived r (skipped r)) (chosen choice.Idle (idled r)))
+    (ite (decLt (skipped r) (playing r)) (arrivedPast r (skipped r)) (chosen choice.Idle (idled r)))
 
 -- 19, 13
 unfoldable pub chooseCheck : Run → Check

@@ -1,7 +1,6 @@
 // The cycle: which read begins.
 ghost use mathlib.Core.Path.{_≡_};
 ghost use Prim.Native.Nat.{_<_};
-ghost use Rattle.run.specs.Seats.{Seated};
 ghost use Rattle.run.specs.Sound.{SoundRun};
 ghost use Rattle.run.specs.Steps.{idled, leftAfter};
 ghost use Rattle.scheduler.specs.Answers.{arrived};
@@ -10,38 +9,36 @@ use crate::Chosen;
 use run::Run;
 use run::State;
 use run::Underway;
+use run::left_in;
 use show::refusal::Refusal;
 
-// Nobody has room: the place has its whole count left again.
+// Nobody has room: an operation is to begin at the place.
 pub(crate) fn idle(mut run: Run) -> Run
-    requires { ⌜ Seated run ⌝ }
     ensures { λ r. ⌜ r ≡ idled run ⌝ }
 {
-    let place = run.place;
-    let seat = run.order[place] as usize;
-    run.left = run.counts[seat];
+    let counts = run.counts;
+    let order = run.order;
+    run.left = left_in(counts, order, run.place);
     run
 }
 
-// What is left where k were skipped: the whole count if any was.
-fn left_after(k: usize, left: u32, whole: u32) -> u32
-    ensures { λ r. ⌜ r ≡ leftAfter k left whole ⌝ }
+// What is left where k were skipped: a fresh operation's if any was.
+pub(crate) fn left_after(k: usize, left: u32, fresh: u32) -> u32
+    ensures { λ r. ⌜ r ≡ leftAfter k left fresh ⌝ }
 {
     if 0 < k {
-        return whole;
+        return fresh;
     }
     left
 }
 
-// After k skipped, the read of the session there, unless it would pass the limit on P.
-pub(crate) fn arrive(run: Run, k: usize) -> Chosen
+// The read of the session at a place, with so many left, unless it would pass the limit on P.
+pub(crate) fn arrive(run: Run, place: usize, left: u32) -> Chosen
     requires { ⌜ SoundRun run ⌝ }
-    requires { ⌜ k < run .show .playing ⌝ }
-    ensures { λ r. ⌜ r ≡ arrived run k ⌝ }
+    requires { ⌜ place < run .show .playing ⌝ }
+    ensures { λ r. ⌜ r ≡ arrived run place left ⌝ }
 {
-    let place = (run.place + k) % run.show.playing;
     let seat = run.order[place] as usize;
-    let left = left_after(k, run.left, run.counts[seat]);
     let state = run.states[seat];
     let show = run.show;
     let counts = run.counts;

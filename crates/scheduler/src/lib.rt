@@ -5,8 +5,10 @@ ghost use mathlib.Core.Path.{_≡_};
 ghost use Rattle.scheduler.specs.Answers.{chooseOf};
 use crate::cycle::arrive;
 use crate::cycle::idle;
+use crate::cycle::left_after;
 use run::Run;
 use run::Underway;
+use run::left_in;
 use run_test::Test;
 use run_test::test_run;
 use show::refusal::Refusal;
@@ -54,7 +56,8 @@ pub fn choose(run: Run) -> Chosen
         let at = (run.place + k) % playing;
         let seat = run.order[at] as usize;
         if run.states[seat].room(show.sessions[seat], show.drive.block) {
-            return arrive(run, k);
+            let left = left_after(k, run.left, left_in(run.counts, run.order, at));
+            return arrive(run, at, left);
         }
         k += 1;
     }

@@ -19,7 +19,7 @@ use Rattle.theory.specs.Slack.{less?}
 use Rattle.theory.proofs.Slack.{rank-below, rank-apart}
 use Rattle.run.specs.declared.Underway.the-variants as underway
 use Rattle.run.specs.declared.Run.{Run}
-use Rattle.run.specs.Run.{playing, countAt}
+use Rattle.run.specs.Run.{playing, leftIn}
 use Rattle.run.specs.Sound.{SoundRun, NamesEach}
 use Rattle.run.specs.Decisions.{false?}
 use Rattle.run.specs.Answers.{moved, freeCheck}
@@ -148,16 +148,16 @@ module _ (r : Run) (n : playing r ≤ length (r .order)) where
   start-first l = names-below (startOrder r) (playing r) start-names 0 l
 
 pub cycling-is :
-    (r : Run) (o : List ℕ) → o ≡ startOrder r →
+    (r : Run) (o : List ℕ) (left : ℕ) → o ≡ startOrder r → left ≡ leftIn (r .counts) o 0 →
     record {
       show = r .show;
       counts = r .counts;
       states = r .states;
       order = o;
       place = 0;
-      left = countAt r (getD o 0 0);
+      left = left;
       underway = r .underway;
       started = true;
     } ≡ running r
 unfolding running
-cycling-is r o e = rw e
+cycling-is r o left e f = rw (f, e)

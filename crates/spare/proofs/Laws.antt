@@ -4,7 +4,7 @@ use mathlib.Core.Path.{_≡_, refl, sym, ap, _∙_}
 use mathlib.Core.Bool.{false}
 use mathlib.Core.Logic.{if-pos}
 use native.Mathlib.Decide.{decLt}
-use native.Mathlib.Nat.{le-refl, mul-comm}
+use native.Mathlib.Nat.{mul-comm}
 use native.Mathlib.Omega.{arith}
 use lib.IntN.{ℤ, pos}
 use lib.ListN.{length}
@@ -27,11 +27,12 @@ use Rattle.run.specs.Decisions.{false?, sound?, soundCheck}
 use Rattle.run.specs.Answers.{moved, presentCheck, freeCheck}
 use Rattle.run.specs.Laws.{Ahead}
 use Rattle.run.proofs.States.{true-false}
+use Rattle.run.proofs.Lefts.{left-within}
 use Rattle.run.proofs.Steps.{nothing-read}
 use Rattle.run.proofs.Answered.{moved-either, moved-back, free-nothing}
 use Rattle.run.specs.declared.Moved.{Moved}
 use Rattle.spare.specs.declared.Spare.the-variants as spare
-use Rattle.spare.specs.Times.{aheadAt, timeAt, slackTime, placeAt, running}
+use Rattle.spare.specs.Times.{aheadAt, timeAt, slackTime, placeAt, startOrder, running}
 use Rattle.spare.specs.Answers.{spared, workaheadOf, someCheck, slackOf, onceCheck, slackCheck, startCheck, startOf}
 use Rattle.spare.specs.Laws.{Started}
 use Rattle.spare.proofs.Aheads.{ahead-floors, counting}
@@ -98,7 +99,7 @@ module _ (r : Run) where
         cycle =
             record {
               empty = λ e. absurd (let z = s .some in let f : ⊥ = omega arith in f);
-              turning = λ l. record { place = l; left = record { low = s .sound .counts .counted _ f; high = le-refl _ } };
+              turning = λ l. record { place = l; left = left-within (r .counts) (startOrder r) 0 (s .sound .counts .counted _ f) };
               underway = λ i e. nothing-read (sym (s .free) ∙ e);
             };
       }

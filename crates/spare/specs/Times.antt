@@ -2,7 +2,7 @@
 use Prim.Native.Nat.{ℕ, zero, suc}
 use mathlib.Core.Bool.{true}
 use mathlib.Core.List.{List}
-use lib.ListN.{getD, set}
+use lib.ListN.{set}
 use lib.IntN.{ℤ, pos, _-ℤ_, _*ℤ_}
 use Rattle.show.specs.declared.Session.{Session}
 use Rattle.theory.specs.Floor.{floorZ}
@@ -10,7 +10,7 @@ use Rattle.theory.specs.Slack.{rank, slack}
 use Rattle.theory.specs.Shows.{loadOf}
 use Rattle.run.specs.declared.State.{State}
 use Rattle.run.specs.declared.Run.{Run}
-use Rattle.run.specs.Run.{playing, stateAt, clipAt, countAt}
+use Rattle.run.specs.Run.{playing, stateAt, clipAt, countAt, leftIn}
 
 -- workahead: ((P - Y) x 1,000,000 - C) / R in µs, rounded down
 abbrev pub aheadOf : Session → State → ℤ
@@ -39,7 +39,7 @@ named place (suc n) l = set (named place n l) (place n) n
 abbrev pub startOrder : Run → List ℕ
 startOrder r = named (placeAt r) (playing r) (r .order)
 
--- The cycle is in the order that slack used, at its first session, whose whole count is left.
+-- The cycle is in the order that slack used, at its first session, where an operation is to begin.
 unfoldable pub running : Run → Run
 running r =
     record {
@@ -48,7 +48,7 @@ running r =
       states = r .states;
       order = startOrder r;
       place = 0;
-      left = countAt r (getD (startOrder r) 0 0);
+      left = leftIn (r .counts) (startOrder r) 0;
       underway = r .underway;
       started = true;
     }

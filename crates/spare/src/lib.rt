@@ -18,6 +18,7 @@ use crate::standing::survey;
 use run::Moved;
 use run::Run;
 use run::Underway;
+use run::left_in;
 use run_test::Test;
 use run_test::test_run;
 use show::refusal::Check;
@@ -132,18 +133,20 @@ fn begin(run: Run) -> Moved
     }
 }
 
-// The cycle in the order of these places, at its first with its whole count.
+// The cycle in the order of these places, an operation to begin at its first.
 fn cycling(run: Run, places: [usize; 16]) -> Run
     requires { ⌜ SoundRun run ⌝ }
     requires { ⌜ (0 < playing run) × (places ≡ placesOf (aheadIn (aheadsOf run)) (playing run)) ⌝ }
     ensures { λ r. ⌜ r ≡ running run ⌝ }
 {
-    let order = ordered(run.order, places, run.show.playing);
-    let first = order[0] as usize;
+    let was = run.order;
+    let order = ordered(was, places, run.show.playing);
+    let counts = run.counts;
+    let left = left_in(counts, order, 0);
     let mut next = run;
     next.order = order;
     next.place = 0;
-    next.left = run.counts[first];
+    next.left = left;
     next.started = true;
     next
 }

@@ -6,7 +6,6 @@ use Rattle.show.proofs.Lists.{unmapped}
 use Rattle.run.specs.Sound.{SoundRun}
 use Rattle.run_test.proofs.Tests.{tested-sound, tested-damaged}
 use Rattle.playback.proofs.Clocks.{sound-clocked}
-use Rattle.playback.proofs.Cycles.{place-few, seated-few}
 use Rattle.playback.proofs.Calls.{finish-damaged, finish-long, finish-nothing, finish-counted, read-few, read-seated, advanced-put}
 use borrow.Author.Needs.{needs}
 use Rattle.playback.proofs.finish.Statement.{statement}
@@ -51,25 +50,14 @@ array-set-from-states c = let k = c .before .before .before .before .before .bef
 place-after-requires : tie.Need-place-after-requires
 place-after-requires c κs = let k = c .before .before .before .before .before .before .before in read-seated _ (sound k) _ (k .before .underway .given .1) .place
 
-mul-seat : tie.Need-mul-seat
-mul-seat c = let k = c .before .before .before .before .before .before .before .before in let b = place-few _ _ (c .place-after .ensures) (read-seated _ (sound k) _ (k .before .underway .given .1)) in omega arith
-
-array-read-seat : tie.Need-array-read-seat
-array-read-seat c = let k = c .before .before .before .before .before .before .before .before in place-few _ _ (c .place-after .ensures) (read-seated _ (sound k) _ (k .before .underway .given .1))
-
-cast-seat : tie.Need-cast-seat
-cast-seat c = let k = c .before .before .before .before .before .before .before .before in let b = seated-few _ _ (c .place-after .ensures) (read-seated _ (sound k) _ (k .before .underway .given .1)) in omega arith
-
-mul-count-off : tie.Need-mul-count-off
-mul-count-off c = let k = c .before .before .before .before .before .before .before .before in let b = seated-few _ _ (c .place-after .ensures) (read-seated _ (sound k) _ (k .before .underway .given .1)) in omega arith
-
-array-read-count-off : tie.Need-array-read-count-off
-array-read-count-off c = let k = c .before .before .before .before .before .before .before .before in seated-few _ _ (c .place-after .ensures) (read-seated _ (sound k) _ (k .before .underway .given .1))
-
 returns-4 : tie.Need-returns-4
 returns-4 c =
-    let d = c .before .before .before .before in
-    let k = d .before .before .before .before .before in rw (c .before .before .fill .ensures) (finish-counted _ _ (sound k) (k .before .before .before .if1 .left) _ _ _ _ (k .before .underway .given .1) (d .advance .ensures) (c .before .place-after .ensures) (c .count-off .ensures))
+    let d = c .before .before .before .before .before in
+    let k = d .before .before .before .before .before in
+    let went = k .before .before .before .if1 .left in
+    rw (c .before .before .before .fill .ensures)
+    (finish-counted _ _ (sound k) went _ _ _ _ _ (k .before .underway .given .1) (d .advance .ensures) (c .before .before .place-after .ensures)
+    (c .before .left-in .ensures) (c .count-off .ensures))
 
 pub finish-spec : {M : Type 1} → statement M
 finish-spec =
@@ -90,10 +78,6 @@ finish-spec =
     mul-states
     array-set-from-states
     place-after-requires
-    mul-seat
-    array-read-seat
-    cast-seat
-    mul-count-off
-    array-read-count-off
+    (λ c κs. search needs)
     (λ c κs. search needs)
     returns-4)

@@ -4,15 +4,9 @@ use borrow.Author.Needs.{needs}
 use Rattle.run.proofs.first_run.Statement.{statement}
 use Rattle.run.proofs.first_run.Tie as tie
 
-table-order-requires : tie.Need-table-order-requires
-table-order-requires c κs = search needs
-
-array-read-t10 : tie.Need-array-read-t10
-array-read-t10 c = search needs
-
 returns : tie.Need-returns
 unfolding firstRun
-returns c = rw (c .table-order .ensures)
+returns c = rw (c .left-in .ensures, c .before .table-order .ensures, c .before .before .first-states .ensures)
 
 pub first-run-spec : {M : Type 1} → statement M
-first-run-spec = tie.close (tie.spec table-order-requires array-read-t10 returns)
+first-run-spec = tie.close (tie.spec (λ c κs. search needs) (λ c κs. search needs) (λ c κs. search needs) returns)

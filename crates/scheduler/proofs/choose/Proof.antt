@@ -1,12 +1,10 @@
 -- `choose` answers the next read, or Idle. Invariant: the first k from the place on have no room; what falls: playing - k. Assumes nothing.
 use Prim.Native.Nat.{_-_}
-use mathlib.Core.Path.{_∙_, ap}
 use native.Mathlib.Omega.{arith}
 use Rattle.show.proofs.Checks.{tells-yes, tells-no}
 use Rattle.run_test.proofs.Tests.{tested-sound, tested-damaged}
-use Rattle.run.proofs.Seats.{sound-seated, onward-few, ahead-few}
-use Rattle.scheduler.specs.Answers.{arrived}
-use Rattle.scheduler.proofs.Cycles.{SkippedTo, skips-none, skips-more, skips-found, skips-all}
+use Rattle.run.proofs.Seats.{sound-seated, onward-in, onward-few, ahead-few}
+use Rattle.scheduler.proofs.Cycles.{SkippedTo, skips-none, skips-more, skips-found, skips-all, arrives-past}
 use Rattle.scheduler.proofs.Calls.{choose-damaged, choose-busy, choose-empty, choose-idle, choose-next}
 use borrow.Author.Needs.{needs}
 use Rattle.scheduler.proofs.choose.Statement.{statement}
@@ -70,14 +68,23 @@ element-copy-out-room-2 c =
 
 arrive-requires : tie.Need-arrive-requires Inv-loop μ-loop
 arrive-requires c κs =
-    let d = c .before .before .before .before .before in
+    let d = c .before .before .before .before .before .before .before .before .before in
     let s = d .before .before .before .before .before .before in
-    ((tested-sound _ _ (s .before .before .test-run .ensures) (s .enum-told .given .1)), d .loop-test .taken)
+    let n = d .before .before .before .if1 .left in
+    let sound = tested-sound _ _ (s .before .before .test-run .ensures) (s .enum-told .given .1) in
+    (sound, onward-in _ (sound-seated _ sound (omega arith)) (d .before .loop .k))
 
 returns-4 : tie.Need-returns-4 Inv-loop μ-loop
 returns-4 c =
-    let e = skips-found _ _ (c .before .before .before .before .before .before .before .loop .inv) (c .before .before .before .before .before .before .loop-test .taken) (tells-yes _ (c .before .before .room .result) (c .before .if2 .taken) (c .before .before .room .ensures)) in
-    choose-next _ (tested-sound _ _ (c .before .before .before .before .before .before .before .before .before .before .before .before .before .before .test-run .ensures) (c .before .before .before .before .before .before .before .before .before .before .before .before .enum-told .given .1)) (c .before .before .before .before .before .before .before .before .before .before .enum-told3 .given .1) (c .before .before .before .before .before .before .before .before .before .if1 .left) _ (let l = c .before .before .before .before .before .before .loop-test .taken in omega arith) (c .arrive .ensures ∙ ap (arrived _) e)
+    let a = c .before .before .before .before .before in
+    let l = a .before .before .before .before .before .loop-test .taken in
+    let d = a .before .before .before .before .before .before .before .before in
+    let s = d .before .before .before in
+    let found = tells-yes _ (a .before .room .result) (a .if2 .taken) (a .before .room .ensures) in
+    let e = skips-found _ _ (a .before .before .before .before .before .before .loop .inv) l found in
+    let sound = tested-sound _ _ (s .before .before .test-run .ensures) (s .enum-told .given .1) in
+    let past = arrives-past _ _ _ _ _ (c .before .before .left-in .ensures) (c .before .left-after .ensures) (c .arrive .ensures) e in
+    choose-next _ sound (d .before .enum-told3 .given .1) (d .if1 .left) _ (omega arith) past
 
 add-k : tie.Need-add-k Inv-loop μ-loop
 add-k c = let l = c .before .before .before .before .before .loop-test .taken in omega arith
@@ -89,11 +96,6 @@ loop-again : tie.Need-loop-again Inv-loop μ-loop
 loop-again c =
     let d = c .before .before .before .before .before in
     skips-more _ _ (d .before .loop .inv) (d .loop-test .taken) (tells-no _ (c .before .room .result) (c .if2 .left) (c .before .room .ensures))
-
-idle-requires : tie.Need-idle-requires Inv-loop μ-loop
-idle-requires c κs =
-    let d = c .before .before .before .before .before .before in
-    sound-seated _ (tested-sound _ _ (d .before .before .test-run .ensures) (d .enum-told .given .1)) (let n = c .before .before .before .if1 .left in omega arith)
 
 returns-5 : tie.Need-returns-5 Inv-loop μ-loop
 returns-5 c =
@@ -125,10 +127,12 @@ choose-spec =
     mul-room-2
     element-copy-out-room-2
     (λ c κs. search needs)
+    (λ c κs. search needs)
+    (λ c κs. search needs)
     arrive-requires
     returns-4
     add-k
     loop-less
     loop-again
-    idle-requires
+    (λ c κs. search needs)
     returns-5)
