@@ -1,9 +1,9 @@
 -- `edges` answers n/N rounded up. Assumes nothing.
 use mathlib.Core.Path.{refl}
 use borrow.Author.Needs.{needs}
 use Rattle.cost.specs.Bound.{ceil, edges}
-use Rattle.verdict.proofs.worst.edges.Statement.{statement}
-use Rattle.verdict.proofs.worst.edges.Tie as tie
+use Rattle.cost.proofs.worst.edges.Statement.{statement}
+use Rattle.cost.proofs.worst.edges.Tie as tie
 
 returns : tie.Need-returns
 unfolding edges ceil

@@ -1,4 +1,4 @@
--- What `worst_time` answers, and that it looks at no unused place. Assumes nothing.
+-- What `takes` and `worst_time` answer, and that the second looks at no unused place. Assumes nothing.
 use Prim.Native.Nat.{ℕ, _≤_, _<_}
 use mathlib.Core.Path.{_≡_, refl, sym, ap, _∙_}
 use native.Mathlib.Omega.{arith}
@@ -6,21 +6,35 @@ use native.Mathlib.Decide.{decLt}
 use Rattle.show.specs.declared.Drive.{Drive}
 use Rattle.show.specs.declared.Show.{Show}
 use Rattle.show.specs.declared.refusal.Refusal.{Refusal}
-use Rattle.show.specs.declared.refusal.Refusal.the-variants.{NoSession}
+use Rattle.show.specs.declared.refusal.Refusal.the-variants.{DriveLimits, LayoutLimits, NoSession}
 use Rattle.show.specs.declared.refusal.Check.{Check}
 use Rattle.show.specs.declared.refusal.Check.the-variants.{Within, Refused}
-use Rattle.show.specs.Limits.{Alike}
+use Rattle.show.specs.Limits.{Between, Alike}
+use Rattle.show.specs.Decisions.{between?}
 use Rattle.show.specs.Checks.{unless, showCheck}
 use Rattle.show.proofs.Checks.{unless-kept, unless-broken}
 use Rattle.show.proofs.Shows.{check-within, alike-check}
 use Rattle.cost.specs.declared.Cost.{Cost}
-use Rattle.cost.specs.Bound.{worstTime}
+use Rattle.cost.specs.Bound.{Limited, worstTime}
 use Rattle.cost.specs.Costs.{costOf}
 use Rattle.cost.proofs.Costs.{alike-cost}
-use Rattle.verdict.specs.declared.worst.Worst.the-variants as worst
-use Rattle.verdict.specs.WorstTimes.{worstOf}
+use Rattle.cost.specs.declared.worst.Worst.the-variants as worst
+use Rattle.cost.specs.WorstTimes.{limited?, takesOf, worstOf}
 
--- The answer case by case.
+-- The answers case by case.
+module _ (c : Cost) (N n : ℕ) where
+  pub takes-undriven : (Between 1 N 65536 → ⊥) → takesOf c N n ≡ worst.Refused DriveLimits
+  unfolding takesOf
+  takes-undriven h = rw (unless-broken (between? 1 N 65536) DriveLimits h)
+
+  pub takes-unlimited : Between 1 N 65536 → (Limited c → ⊥) → takesOf c N n ≡ worst.Refused (LayoutLimits 0)
+  unfolding takesOf
+  takes-unlimited b h = rw (unless-kept (between? 1 N 65536) DriveLimits b, unless-broken (limited? c) (LayoutLimits 0) h)
+
+  pub takes-known : Between 1 N 65536 → Limited c → takesOf c N n ≡ worst.Takes (worstTime N c n)
+  unfolding takesOf
+  takes-known b l = rw (unless-kept (between? 1 N 65536) DriveLimits b, unless-kept (limited? c) (LayoutLimits 0) l)
+
 module _ (s : Show) (i n : ℕ) where
   pub worst-refused : {w : Refusal} → showCheck s ≡ Refused w → worstOf s i n ≡ worst.Refused w
   unfolding worstOf

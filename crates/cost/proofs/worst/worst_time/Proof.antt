@@ -7,12 +7,12 @@ use Rattle.show.specs.declared.refusal.Check.the-variants.{Within}
 use Rattle.show.specs.Checks.{showCheck}
 use Rattle.show.specs.Limits.{ShowWithin}
 use Rattle.show.proofs.Shows.{check-within}
-use Rattle.cost.proofs.Costs.{laid-below, layout-within}
-use Rattle.verdict.specs.declared.worst.Worst.the-variants.{Takes}
-use Rattle.verdict.proofs.Sets.{time-same}
-use Rattle.verdict.proofs.WorstTimes.{worst-refused, worst-nobody, worst-takes}
-use Rattle.verdict.proofs.worst.worst_time.Statement.{statement}
-use Rattle.verdict.proofs.worst.worst_time.Tie as tie
+use Rattle.cost.specs.declared.Cost.{Cost}
+use Rattle.cost.specs.WorstTimes.{takesOf}
+use Rattle.cost.proofs.Costs.{laid-below, cost-read, cost-limited}
+use Rattle.cost.proofs.WorstTimes.{takes-known, worst-refused, worst-nobody, worst-takes}
+use Rattle.cost.proofs.worst.worst_time.Statement.{statement}
+use Rattle.cost.proofs.worst.worst_time.Tie as tie
 
 abbrev show : tie.After-enum-told → Show
 show c = c .before .before .before .args .t1
@@ -35,20 +35,19 @@ mul-session c = let h = within (c .before) .counts .sessions in let l = c .if1 .
 element-copy-out-session : tie.Need-element-copy-out-session
 element-copy-out-session c = let h = within (c .before) .counts .sessions in let l = c .if1 .left in omega arith
 
-element-copy-out-takes : tie.Need-element-copy-out-takes
-element-copy-out-takes c = let h = laid-below _ (within (c .before .before .before)) _ (c .before .before .if1 .left) in omega arith
-
-takes-requires : tie.Need-takes-requires
-takes-requires c κs =
-    let d = c .before .before .before in
-    let w = within (d .before) in
-    (layout-within _ w _ (d .if1 .left), w .drive .cylinder .low)
+element-copy-out-of-read : tie.Need-element-copy-out-of-read
+element-copy-out-of-read c = let h = laid-below _ (within (c .before .before .before)) _ (c .before .before .if1 .left) in omega arith
 
 returns-3 : tie.Need-returns-3
 returns-3 c =
-    let d = c .before .before .before .before in
+    let d = c .before .before .before .before .before in
     let a = d .before .before .before .before .args in
-    ap Takes (c .takes .ensures .0 ∙ time-same (a .t1) (a .i) (a .n)) ∙ sym (worst-takes _ _ _ (passed (d .before)) (d .if1 .left))
+    let w = within (d .before) in
+    let l = d .if1 .left in
+    c .takes .ensures
+    ∙ ap (λ (x : Cost). takesOf x (a .t1 .drive .cylinder) (a .n)) (c .before .of-read .ensures ∙ cost-read (a .t1) (a .i))
+    ∙ takes-known _ _ _ (w .drive .cylinder) (cost-limited _ w _ l)
+    ∙ sym (worst-takes _ _ _ (passed (d .before)) l)
 
 pub worst-time-spec : {M : Type 1} → statement M
 worst-time-spec =
@@ -63,6 +62,7 @@ worst-time-spec =
     element-copy-out-session
     (λ c. search needs)
     (λ c. search needs)
-    element-copy-out-takes
-    takes-requires
+    element-copy-out-of-read
+    (λ c κs. search needs)
+    (λ c κs. search needs)
     returns-3)
