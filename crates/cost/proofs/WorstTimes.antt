@@ -35,6 +35,17 @@ module _ (c : Cost) (N n : ℕ) where
   unfolding takesOf
   takes-known b l = rw (unless-kept (between? 1 N 65536) DriveLimits b, unless-kept (limited? c) (LayoutLimits 0) l)
 
+  -- So within the limits a time that is answered is U, and nothing is refused.
+  module _ (b : Between 1 N 65536) (l : Limited c) where
+    pub takes-is : {t : ℕ} → takesOf c N n ≡ worst.Takes t → t ≡ worstTime N c n
+    takes-is {t} e = let g : worst.Takes t ≡ worst.Takes (worstTime N c n) = sym e ∙ takes-known b l in cc
+
+    pub takes-granted : {w : Refusal} {X : Type 0} → takesOf c N n ≡ worst.Refused w → X
+    takes-granted {w} e =
+        let g : worst.Refused w ≡ worst.Takes (worstTime N c n) = sym e ∙ takes-known b l in
+        let z : _≡_ {A = ℕ} 0 1 = cc in
+        absurd (let f : ⊥ = omega arith in f)
+
 module _ (s : Show) (i n : ℕ) where
   pub worst-refused : {w : Refusal} → showCheck s ≡ Refused w → worstOf s i n ≡ worst.Refused w
   unfolding worstOf

@@ -13,7 +13,8 @@ use Rattle.theory.specs.Rounds.{need, asked, Fits, NotPast}
 use Rattle.theory.specs.Shows.{loadOf}
 use Rattle.theory.proofs.Rounds.{need-enough, need-least, start-below, accepted-fits}
 use Rattle.theory.proofs.Shows.{show-sound}
-use Rattle.verdict.specs.Steps.{Buffered, Lasting, SoonerIs, EndIs, endMost}
+use Rattle.count.specs.Answers.{Buffered}
+use Rattle.verdict.specs.Steps.{Lasting, SoonerIs, EndIs, endMost}
 
 -- A quotient rounded up is above t exactly if t times the divisor is below the dividend.
 below-ceil : (t a r : ℕ) → 1 ≤ r → (t < (a + r - 1) / r) ↔ (r * t < a)

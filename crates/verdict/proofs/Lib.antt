@@ -1,5 +1,3 @@
-pub mod WorstTimes
-pub mod Spans
 pub mod Sets
 pub mod Ends
 pub mod Works

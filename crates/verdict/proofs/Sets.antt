@@ -21,12 +21,10 @@ use Rattle.theory.proofs.Sum.{sum-none, sum-more}
 use Rattle.theory.proofs.Rounds.{need-enough, need-least, need-some, unit-some, smallest-same}
 use Rattle.theory.proofs.Shows.{show-sound}
 use Rattle.verdict.specs.Answers.{row, timesOf, setOf, timedAs, TrialIs, holds, fails}
-use Rattle.verdict.specs.Steps.{spanOf, givenMost, timeMost, Held, Holds}
+use Rattle.verdict.specs.Steps.{timeMost, Held, Holds}
 use Rattle.verdict.specs.declared.Answer.{Answer}
 use Rattle.verdict.specs.declared.Answer.the-variants as answer
 use Rattle.verdict.specs.declared.Trial.{Trial}
-use Rattle.verdict.specs.declared.round.Span.{Span}
-use Rattle.verdict.proofs.Spans.{span-asked}
 
 -- ---- the counts that a time asks for
 
@@ -76,43 +74,32 @@ time-same s i n = ap (λ (c : Cost). worstTime (s .drive .cylinder) c n) (cost-r
 
 pub times-ended :
     (s : Show) (f : ℕ → ℕ) (sum : ℕ) (out : List ℕ) (i : ℕ) → ShowWithin s → TimedTo s f sum out i → s .playing ≤ i →
-    (sum ≡ sumTo f (s .playing)) × (out ≡ row (loadOf s) f) × (sum < givenMost)
+    (sum ≡ sumTo f (s .playing)) × (out ≡ row (loadOf s) f)
 times-ended s f sum out i w h l =
     let a = h .times .inside in
-    let g = h .small in
-    let n = w .counts .sessions in
-    (h .adds ∙ ap (sumTo f) (omega arith), row-ended s f out i (h .times) l, omega arith)
+    (h .adds ∙ ap (sumTo f) (omega arith), row-ended s f out i (h .times) l)
 
 -- ---- whether given counts hold
 
-pub record HeldTo (s : Show) (p : Span) (m : ℕ → ℕ) (i : ℕ) : Type 0 where
+pub record HeldTo (s : Show) (t : ℕ) (m : ℕ → ℕ) (i : ℕ) : Type 0 where
   pub inside : i ≤ s .playing
-  pub held : (k : ℕ) → k < i → Held (s .drive .block) (sessionAt s k) p (m k)
+  pub held : (k : ℕ) → k < i → Held (s .drive .block) (sessionAt s k) t (m k)
 
-module _ (s : Show) (p : Span) (m : ℕ → ℕ) where
-  pub held-begun : HeldTo s p m 0
+module _ (s : Show) (t : ℕ) (m : ℕ → ℕ) where
+  pub held-begun : HeldTo s t m 0
   held-begun = record { inside = omega arith; held = λ k h. absurd (let f : ⊥ = omega arith in f) }
 
-  pub held-body : (i : ℕ) → HeldTo s p m i → i < s .playing → Held (s .drive .block) (sessionAt s i) p (m i) → HeldTo s p m (i + 1)
+  pub held-body : (i : ℕ) → HeldTo s t m i → i < s .playing → Held (s .drive .block) (sessionAt s i) t (m i) → HeldTo s t m (i + 1)
   held-body i h l g = record { inside = omega arith; held = below-more _ _ (h .held) g }
 
-  module _ (t : ℕ) (e : p ≡ spanOf (unit (loadOf s)) t) where
-    pub held-ended : (i : ℕ) → HeldTo s p m i → s .playing ≤ i → Holds (loadOf s) t m
-    held-ended i h l =
-        let at : (k : ℕ) → k < s .playing → Held (s .drive .block) (sessionAt s k) p (m k) =
-        (λ k g. h .held k (let a = h .inside in omega arith)) in
-        record {
-          room = λ k g. at k g .room;
-          ahead = λ k g. rw (sym (span-asked (sessionAt s k .rate) (unit (loadOf s)) t p e)) (at k g .ahead);
-        }
+  pub held-ended : (i : ℕ) → HeldTo s t m i → s .playing ≤ i → Holds (loadOf s) t m
+  held-ended i h l =
+      let at : (k : ℕ) → k < s .playing → Held (s .drive .block) (sessionAt s k) t (m k) =
+      (λ k g. h .held k (let a = h .inside in omega arith)) in
+      record { room = λ k g. at k g .room; ahead = λ k g. at k g .ahead }
 
-    pub held-broken : (i : ℕ) → i < s .playing → (Held (s .drive .block) (sessionAt s i) p (m i) → ⊥) → Holds (loadOf s) t m → ⊥
-    held-broken i l none h =
-        none
-        (record {
-          room = h .room i l;
-          ahead = rw (span-asked (sessionAt s i .rate) (unit (loadOf s)) t p e) (h .ahead i l);
-        })
+  pub held-broken : (i : ℕ) → i < s .playing → (Held (s .drive .block) (sessionAt s i) t (m i) → ⊥) → Holds (loadOf s) t m → ⊥
+  held-broken i l none h = none (record { room = h .room i l; ahead = h .ahead i l })
 
 -- Counts that hold over their own round are a good set, and the other way round: N1.
 module _ (s : Show) (w : ShowWithin s) (m : ℕ → ℕ) where

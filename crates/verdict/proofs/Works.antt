@@ -18,9 +18,7 @@ use Rattle.theory.proofs.Sum.{sum-capped}
 use Rattle.theory.proofs.Rounds.{need-enough, need-grows, unit-some}
 use Rattle.theory.proofs.Shows.{show-sound, feasible-few}
 use Rattle.verdict.specs.Answers.{row}
-use Rattle.verdict.specs.Steps.{roundMost, ratesOf, spanOf, askedOf}
-use Rattle.verdict.specs.declared.round.Span.{Span}
-use Rattle.verdict.proofs.Spans.{span-asked}
+use Rattle.verdict.specs.Steps.{roundMost, ratesOf}
 use Rattle.verdict.proofs.Sets.{time-same, set-of-row}
 
 pub rate-at : (s : Show) (rates : List ℕ) → rates ≡ row (loadOf s) (ratesOf s) → (i : ℕ) → i < s .playing → getD rates i 0 ≡ ratesOf s i
@@ -34,14 +32,6 @@ module _ (s : Show) (w : ShowWithin s) where
   pub work-below : (i t : ℕ) → ratesOf s i * t < asked (loadOf s) t i * unit (loadOf s)
   work-below i t =
       need-enough (ratesOf s i) (unit (loadOf s)) t (asked (loadOf s) t i) (unit-some (loadOf s) (show-sound s w)) (le-refl (asked (loadOf s) t i))
-
-  -- The same by a span.
-  module _ (i t : ℕ) (p : Span) (f : p ≡ spanOf (unit (loadOf s)) t) where
-    pub asked-same : askedOf (sessionAt s i .rate) p ≡ asked (loadOf s) t i
-    asked-same = span-asked (sessionAt s i .rate) (unit (loadOf s)) t p f
-
-    pub asked-few : i < s .playing → Fits (loadOf s) t → askedOf (sessionAt s i .rate) p < countMost
-    asked-few l h = rw asked-same (feasible-few s w (asked (loadOf s) t) h i l)
 
   -- What the code computes of a session's rate r and a time t: the count that is ahead of the work, and how long that takes.
   module _ (i t r : ℕ) (q : r ≡ ratesOf s i) where

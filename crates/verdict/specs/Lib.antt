@@ -1,3 +1,2 @@
-pub mod WorstTimes
 pub mod Answers
 pub mod Steps

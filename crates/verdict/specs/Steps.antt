@@ -1,5 +1,5 @@
 -- What the private functions ask and answer.
-use Prim.Native.Nat.{ℕ, _+_, _*_, _/_, _%_, _^_, _≤_, _<_}
+use Prim.Native.Nat.{ℕ, _+_, _*_, _≤_, _<_}
 use mathlib.Core.Logic.{_↔_}
 use Rattle.show.specs.declared.Session.{Session}
 use Rattle.show.specs.declared.Show.{Show}
@@ -8,7 +8,7 @@ use Rattle.cost.specs.Bound.{fixedMost, eachMost, crossMost, worstMost}
 use Rattle.theory.specs.Counts.{Load, Feasible, Accepted}
 use Rattle.theory.specs.Rounds.{need, asked, Fits, LeastTime}
 use Rattle.theory.specs.Shows.{loadOf}
-use Rattle.verdict.specs.declared.round.Span.{Span}
+use Rattle.count.specs.Answers.{Buffered}
 use Rattle.verdict.specs.declared.round.Turn.{Turn}
 use Rattle.verdict.specs.declared.round.Turn.the-variants.{Takes, Full}
 
@@ -16,31 +16,9 @@ use Rattle.verdict.specs.declared.round.Turn.the-variants.{Takes, Full}
 abbrev pub roundMost : ℕ
 roundMost = 16 * worstMost
 
--- .. while any count of 32 bits takes this at most, and a round of such counts less than 2 ^ 58.
+-- .. while any count of 32 bits takes this at most, and a round of such counts fits 64 bits.
 abbrev pub timeMost : ℕ
 timeMost = fixedMost + 4294967295 * (eachMost + crossMost)
-
-abbrev pub givenMost : ℕ
-givenMost = 2 ^ 58
-
--- t in units of D
-abbrev pub spanOf : ℕ → ℕ → Span
-spanOf D t = record { unit = D; whole = t / D; part = t % D }
-
--- A span whose parts, times a rate, fit 64 bits.
-pub record Short (p : Span) : Type 0 where
-  pub some : 1 ≤ p .unit
-  pub within : p .unit ≤ blockMost * 1000000
-  pub rest : p .part < p .unit
-  pub many : p .whole ≤ 562949953
-
--- the count that a session is asked for over a span
-abbrev pub askedOf : ℕ → Span → ℕ
-askedOf rate p = need rate (p .unit) (p .unit * p .whole + p .part)
-
--- (M + 1) x A + Y is at most B
-abbrev pub Buffered : ℕ → Session → ℕ → Type 0
-Buffered A x m = (m + 1) * A + x .cushion ≤ x .buffer
 
 -- What is known of a session, to tell how long a round its buffer takes.
 pub record Lasting (A : ℕ) (x : Session) : Type 0 where
@@ -74,10 +52,10 @@ abbrev pub SettledAs : Show → Turn → Type 0
 SettledAs s (Takes t) = Settled s t
 SettledAs s Full = Accepted (loadOf s) → ⊥
 
--- A count has room, and is no less than what is asked: so it is at least 1.
-pub record Held (A : ℕ) (x : Session) (p : Span) (m : ℕ) : Type 0 where
+-- A count has room, and is no less than what t asks for: so it is at least 1.
+pub record Held (A : ℕ) (x : Session) (t m : ℕ) : Type 0 where
   pub room : Buffered A x m
-  pub ahead : askedOf (x .rate) p ≤ m
+  pub ahead : need (x .rate) (A * 1000000) t ≤ m
 
 pub record Holds (l : Load) (t : ℕ) (m : ℕ → ℕ) : Type 0 where
   pub room : Feasible l m

@@ -1,7 +1,7 @@
 // Yes or no: whether a show is accepted, with the smallest set of counts, and whether given counts are such a set.
 pub mod given;
+pub mod known;
 pub mod round;
-pub mod worst;
 
 ghost use mathlib.Core.Path.{_≡_};
 ghost use Rattle.show.specs.Limits.{ShowWithin};
@@ -10,11 +10,10 @@ ghost use Rattle.theory.specs.Shows.{loadOf};
 ghost use Rattle.verdict.specs.Answers.{DecisionIs, TrialIs, acceptedWith, refusedFor};
 ghost use Rattle.verdict.specs.Steps.{Settled};
 use crate::given::held;
+use crate::known::asks;
+use crate::known::takes;
 use crate::round::Turn;
-use crate::round::need;
 use crate::round::settle;
-use crate::round::split;
-use crate::worst::takes;
 use show::Show;
 use show::refusal::Check;
 use show::refusal::Refusal;
@@ -68,7 +67,6 @@ fn accepted(show: Show, t: u64) -> Decision
     ensures { λ r. ⌜ r ≡ acceptedWith (loadOf show) (asked (loadOf show) t) ⌝ }
 {
     let drive = show.drive;
-    let span = split(drive.block, t);
     let mut round: u64 = 0;
     let mut counts: [u32; 16] = [0; 16];
     let mut times: [u64; 16] = [0; 16];
@@ -76,7 +74,7 @@ fn accepted(show: Show, t: u64) -> Decision
     while i < show.playing {
         let session = show.sessions[i];
         let at = session.layout as usize;
-        let count = need(session.rate, span);
+        let count = asks(session.rate, drive.block, t);
         let time = takes(show.layouts[at], drive.cylinder, count as u32);
         counts[i] = count as u32;
         times[i] = time;
@@ -126,10 +124,9 @@ pub fn tried(show: Show, counts: [u32; 16]) -> Trial
         round += time;
         i += 1;
     }
-    let span = split(drive.block, round);
     let mut k: usize = 0;
     while k < show.playing {
-        if !held(drive.block, show.sessions[k], span, counts[k]) {
+        if !held(drive.block, show.sessions[k], round, counts[k]) {
             return Trial {
                 answer: Answer::Fails,
                 round,

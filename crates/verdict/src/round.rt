@@ -1,67 +1,17 @@
 // The least round time that sustains itself, and the counts that it asks for: docs/RULES.md, section 7.
 ghost use mathlib.Core.Path.{_≡_};
-ghost use Prim.Native.Nat.{_*_, _≤_};
-ghost use Rattle.show.specs.Limits.{Tells, ShowWithin, blockLeast, rateMost, bufferMost};
+ghost use Rattle.show.specs.Limits.{ShowWithin};
 ghost use Rattle.theory.specs.Shows.{loadOf};
 ghost use Rattle.verdict.specs.Answers.{row};
-ghost use Rattle.verdict.specs.Steps.{spanOf, Short, askedOf, Buffered, Lasting, SoonerIs, EndIs, ratesOf, SettledAs};
-use crate::worst::takes;
+ghost use Rattle.verdict.specs.Steps.{Lasting, SoonerIs, EndIs, ratesOf, SettledAs};
+use crate::known::takes;
 use show::Session;
 use show::Show;
-
-// A time in units of A x 1,000,000: unit x whole + part. A rate times a time can pass 64 bits, a rate times these cannot.
-pub(crate) struct Span {
-    pub unit: u64,
-    pub whole: u64,
-    pub part: u64,
-}
 
 // How long a round takes, or that a count in it does not fit its buffer.
 pub(crate) enum Turn {
     Takes(u64),
     Full,
-}
-
-pub(crate) fn split(block: u32, t: u64) -> Span
-    requires { ⌜ 1 ≤ block ⌝ }
-    ensures { λ r. ⌜ r ≡ spanOf (block * 1000000) t ⌝ }
-{
-    let unit = block as u64 * 1_000_000;
-    Span {
-        unit,
-        whole: t / unit,
-        part: t % unit,
-    }
-}
-
-// The least count that is ahead of the rate over the time.
-pub(crate) fn need(rate: u32, span: Span) -> u64
-    requires { ⌜ (rate ≤ rateMost) × Short span ⌝ }
-    ensures { λ r. ⌜ r ≡ askedOf rate span ⌝ }
-{
-    let r = rate as u64;
-    let whole = r * span.whole;
-    let part = r * span.part / span.unit;
-    whole + part + 1
-}
-
-// No buffer within the limits takes so many blocks and one more.
-const COUNT_MOST: u64 = 2_097_152;
-
-// Whether the buffer takes the count and one block more.
-pub(crate) fn fits(block: u32, session: Session, count: u64) -> bool
-    requires { ⌜ (blockLeast ≤ block) × (session .buffer ≤ bufferMost) ⌝ }
-    ensures { λ r. ⌜ Tells r (Buffered block session count) ⌝ }
-{
-    if COUNT_MOST <= count {
-        return false;
-    }
-    let blocks = (count + 1) * (block as u64);
-    let needed = blocks + session.cushion as u64;
-    if (session.buffer as u64) < needed {
-        return false;
-    }
-    true
 }
 
 // Past every round of counts that fit.

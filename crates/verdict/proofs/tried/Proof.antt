@@ -10,8 +10,8 @@ use Rattle.show.proofs.Checks.{tells-yes, tells-no}
 use Rattle.show.proofs.Lists.{filled-none}
 use Rattle.cost.proofs.Costs.{laid-below, layout-within}
 use Rattle.theory.specs.Shows.{loadOf}
+use Rattle.count.proofs.Answers.{drive-block}
 use Rattle.verdict.specs.Answers.{setOf, untried}
-use Rattle.verdict.proofs.Spans.{span-short}
 use Rattle.verdict.proofs.Sets.{TimedTo, times-begun, times-body, times-ended, time-same, HeldTo, held-begun, held-body, held-ended, held-broken, trial-holds, trial-fails}
 use borrow.Author.Needs.{needs}
 use Rattle.verdict.proofs.tried.Statement.{statement}
@@ -25,10 +25,10 @@ abbrev μ-loop : tie.MeasureT-loop
 μ-loop show counts drive round₀ times₀ i₀ round times i = show .playing - i
 
 abbrev Inv-loop2 : tie.InvT-loop2
-Inv-loop2 show counts drive round times i span k₀ k = HeldTo show span (setOf counts) k
+Inv-loop2 show counts drive round times i k₀ k = HeldTo show round (setOf counts) k
 
 abbrev μ-loop2 : tie.MeasureT-loop2
-μ-loop2 show counts drive round times i span k₀ k = show .playing - k
+μ-loop2 show counts drive round times i k₀ k = show .playing - k
 
 returns : tie.Need-returns Inv-loop μ-loop Inv-loop2 μ-loop2
 returns c = untried _ (sym (c .before .before .before .check .ensures) ∙ c .before .check2 .given .1)
@@ -60,7 +60,7 @@ array-read-takes c = let h = within (c .before .before .before .before .before .
 takes-requires : tie.Need-takes-requires Inv-loop μ-loop Inv-loop2 μ-loop2
 takes-requires c κs =
     let w = within (c .before .before .before .before .before .before) in
-    (layout-within _ w _ (c .before .before .before .loop-test .taken), w .drive .cylinder .low)
+    (layout-within _ w _ (c .before .before .before .loop-test .taken), w .drive .cylinder)
 
 mul-times : tie.Need-mul-times Inv-loop μ-loop Inv-loop2 μ-loop2
 mul-times c =
@@ -89,36 +89,33 @@ loop-again c =
     let l = c .before .before .before .before .loop-test .taken in
     times-body _ _ _ _ _ _ (within (c .before .before .before .before .before .before .before)) (c .before .before .before .before .before .loop .inv) l (e .0 ∙ time-same _ _ _) (e .1)
 
-split-requires : tie.Need-split-requires Inv-loop μ-loop Inv-loop2 μ-loop2
-split-requires c κs = let h = within (c .before .before .before) .drive .block .low in omega arith
-
 loop2-holds : tie.Need-loop2-holds Inv-loop μ-loop Inv-loop2 μ-loop2
 loop2-holds c = held-begun _ _ _
 
 mul-held : tie.Need-mul-held Inv-loop μ-loop Inv-loop2 μ-loop2
-mul-held c = let h = within (c .before .before .before .before .before .before) .counts .sessions in let l = c .loop2-test .taken in omega arith
+mul-held c = let h = within (c .before .before .before .before .before) .counts .sessions in let l = c .loop2-test .taken in omega arith
 
 element-copy-out-held : tie.Need-element-copy-out-held Inv-loop μ-loop Inv-loop2 μ-loop2
-element-copy-out-held c = let h = within (c .before .before .before .before .before .before) .counts .sessions in let l = c .loop2-test .taken in omega arith
+element-copy-out-held c = let h = within (c .before .before .before .before .before) .counts .sessions in let l = c .loop2-test .taken in omega arith
 
 mul-held-2 : tie.Need-mul-held-2 Inv-loop μ-loop Inv-loop2 μ-loop2
-mul-held-2 c = let h = within (c .before .before .before .before .before .before .before) .counts .sessions in let l = c .before .loop2-test .taken in omega arith
+mul-held-2 c = let h = within (c .before .before .before .before .before .before) .counts .sessions in let l = c .before .loop2-test .taken in omega arith
 
 array-read-held : tie.Need-array-read-held Inv-loop μ-loop Inv-loop2 μ-loop2
-array-read-held c = let h = within (c .before .before .before .before .before .before .before) .counts .sessions in let l = c .before .loop2-test .taken in omega arith
+array-read-held c = let h = within (c .before .before .before .before .before .before) .counts .sessions in let l = c .before .loop2-test .taken in omega arith
 
 held-requires : tie.Need-held-requires Inv-loop μ-loop Inv-loop2 μ-loop2
 held-requires c κs =
-    let w = within (c .before .before .before .before .before .before .before) in
-    let x = w .sessions _ (c .before .loop2-test .taken) in
-    let r = (times-ended _ _ _ _ _ (within (c .before .before .before .before .before .before .before)) (c .before .before .before .before .before .loop .inv) (c .before .before .before .before .loop-test .left)) in
-    (w .drive .block .low, x .rate .high, x .buffer .high, span-short _ _ _ (w .drive .block) (r .2) (c .before .before .before .split .ensures))
+    let w = within (c .before .before .before .before .before .before) in
+    (drive-block _ (w .drive), w .sessions _ (c .before .loop2-test .taken) .rate)
 
 returns-2 : tie.Need-returns-2 Inv-loop μ-loop Inv-loop2 μ-loop2
 returns-2 c =
-    let r = (times-ended _ _ _ _ _ (within (c .before .before .before .before .before .before .before .before .before)) (c .before .before .before .before .before .before .before .loop .inv) (c .before .before .before .before .before .before .loop-test .left)) in
-    trial-fails _ (within (c .before .before .before .before .before .before .before .before .before)) _ _ _ (r .0) (r .1)
-    (held-broken _ _ _ _ (c .before .before .before .before .before .split .ensures) _ (c .before .before .before .loop2-test .taken) (tells-no _ (c .before .held .result) (not-true _ (c .if1 .taken)) (c .before .held .ensures)))
+    let d = c .before .before .before in
+    let w = within (d .before .before .before .before .before) in
+    let r = times-ended _ _ _ _ _ w (d .before .before .before .loop .inv) (d .before .before .loop-test .left) in
+    trial-fails _ w _ _ _ (r .0) (r .1)
+    (held-broken _ _ _ _ (d .loop2-test .taken) (tells-no _ (c .before .held .result) (not-true _ (c .if1 .taken)) (c .before .held .ensures)))
 
 loop2-less : tie.Need-loop2-less Inv-loop μ-loop Inv-loop2 μ-loop2
 loop2-less c = let l = c .before .before .before .loop2-test .taken in omega arith
@@ -130,8 +127,9 @@ loop2-again c =
 
 returns-3 : tie.Need-returns-3 Inv-loop μ-loop Inv-loop2 μ-loop2
 returns-3 c =
-    let r = (times-ended _ _ _ _ _ (within (c .before .before .before .before .before .before)) (c .before .before .before .before .loop .inv) (c .before .before .before .loop-test .left)) in
-    trial-holds _ (within (c .before .before .before .before .before .before)) _ _ _ (r .0) (r .1) (held-ended _ _ _ _ (c .before .before .split .ensures) _ (c .before .loop2 .inv) (c .loop2-test .left))
+    let w = within (c .before .before .before .before .before) in
+    let r = times-ended _ _ _ _ _ w (c .before .before .before .loop .inv) (c .before .before .loop-test .left) in
+    trial-holds _ w _ _ _ (r .0) (r .1) (held-ended _ _ _ _ (c .before .loop2 .inv) (c .loop2-test .left))
 
 pub tried-spec : {M : Type 1} → statement M
 tried-spec =
@@ -160,7 +158,6 @@ tried-spec =
     (λ c. search needs)
     loop-less
     loop-again
-    split-requires
     loop2-holds
     mul-held
     element-copy-out-held

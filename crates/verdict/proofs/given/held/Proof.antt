@@ -13,8 +13,8 @@ returns : tie.Need-returns
 returns c =
     λ h. tells-no _ (c .before .fits2 .result) (not-true _ (c .if1 .taken)) (c .before .fits2 .ensures) (h .room)
 
-need-requires : tie.Need-need-requires
-need-requires c κs = search needs
+asks-requires : tie.Need-asks-requires
+asks-requires c κs = search needs
 
 returns-2 : tie.Need-returns-2
 returns-2 c = search needs
@@ -23,8 +23,8 @@ returns-3 : tie.Need-returns-3
 returns-3 c =
     record {
       room = tells-yes _ (c .before .before .before .fits2 .result) (not-false _ (c .before .before .if1 .left)) (c .before .before .before .fits2 .ensures);
-      ahead = rw (sym (c .before .need .ensures)) (c .if2 .left);
+      ahead = rw (sym (c .before .asks .ensures)) (c .if2 .left);
     }
 
 pub held-spec : {M : Type 1} → statement M
-held-spec = tie.close (tie.spec fits-requires returns need-requires returns-2 returns-3)
+held-spec = tie.close (tie.spec fits-requires returns asks-requires returns-2 returns-3)

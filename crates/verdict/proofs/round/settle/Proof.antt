@@ -95,7 +95,7 @@ cast-takes c =
 takes-requires : tie.Need-takes-requires Inv-loop2 μ-loop2 Inv-loop μ-loop
 takes-requires c κs =
     let w = within (c .before .before .before .before) in
-    (layout-within _ w _ (c .before .before .before .before .loop2-test .taken), w .drive .cylinder .low)
+    (layout-within _ w _ (c .before .before .before .before .loop2-test .taken), w .drive .cylinder)
 
 time :
     (c : tie.After-takes Inv-loop2 μ-loop2 Inv-loop μ-loop) →
