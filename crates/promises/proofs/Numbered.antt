@@ -34,8 +34,10 @@ use Rattle.show.specs.declared.refusal.Check.the-variants as check
 use Rattle.show.specs.Limits.{Between}
 use Rattle.show.specs.Refusals.{numberOf, placeOf, toldOf}
 use Rattle.show.specs.Outcomes.{Outcome, granted, checkOutcome}
-use Rattle.verdict.specs.declared.worst.Worst.the-variants as worst
-use Rattle.verdict.specs.WorstTimes.{worstOutcome}
+use Rattle.cost.specs.declared.worst.Worst.the-variants as worst
+use Rattle.cost.specs.WorstTimes.{worstOutcome}
+use Rattle.count.specs.declared.Asked.the-variants as asked
+use Rattle.count.specs.Answers.{askedOutcome}
 use Rattle.verdict.specs.declared.Verdict.the-variants as verdict
 use Rattle.verdict.specs.declared.Answer.the-variants as answer
 use Rattle.verdict.specs.Answers.{verdictOutcome, answerOutcome}
@@ -139,6 +141,8 @@ known =
           (λ a. elim a [ check.Within ↦ refl | check.Refused w ↦ read-refusal _ _ w ]);
       worst = known-by worstOutcome (λ l. worst.Takes (valueAt 0 l)) worst.Refused
           (λ a. elim a [ worst.Takes t ↦ refl | worst.Refused w ↦ read-refusal _ _ w ]);
+      asked = known-by askedOutcome (λ l. asked.Count (valueAt 0 l)) asked.Refused
+          (λ a. elim a [ asked.Count m ↦ refl | asked.Refused w ↦ read-refusal _ _ w ]);
       verdict = known-by verdictOutcome (λ l. verdict.Accepted) verdict.Refused
           (λ a. elim a [ verdict.Accepted ↦ refl | verdict.Refused w ↦ read-refusal _ _ w ]);
       answer = known-by answerOutcome (λ l. getD (answer.Fails ∷ []) (valueAt 0 l) answer.Holds) answer.Refused

@@ -8,8 +8,10 @@ use Rattle.show.specs.declared.refusal.Check.the-variants.{Refused}
 use Rattle.show.specs.Outcomes.{Outcome, checkOutcome}
 use Rattle.theory.specs.Counts.{Accepted}
 use Rattle.theory.specs.Shows.{loadOf}
-use Rattle.verdict.specs.declared.worst.Worst.the-variants as worst
-use Rattle.verdict.specs.WorstTimes.{worstOutcome}
+use Rattle.cost.specs.declared.worst.Worst.the-variants as worst
+use Rattle.cost.specs.WorstTimes.{worstOutcome}
+use Rattle.count.specs.declared.Asked.the-variants as asked
+use Rattle.count.specs.Answers.{askedOutcome}
 use Rattle.verdict.specs.declared.Verdict.the-variants as verdict
 use Rattle.verdict.specs.declared.Answer.the-variants as answer
 use Rattle.verdict.specs.Answers.{verdictOutcome, answerOutcome}
@@ -54,6 +56,12 @@ only =
     let of-writer : List ℕ = 2 ∷ 4 ∷ 5 ∷ 6 ∷ 7 ∷ 16 ∷ [] in
     record {
       check = λ s. check-says of-show _ (limits-alone s (shows .check s));
+      takes = λ c N n.
+          (let l : List ℕ = 5 ∷ 6 ∷ [] in
+          says worst.Refused worstOutcome (λ w. refl) l _ (when-among l tt (when-among l tt (grants-among l)) (shows .takes c N n)));
+      need = λ R A t.
+          (let l : List ℕ = 5 ∷ 7 ∷ [] in
+          says asked.Refused askedOutcome (λ w. refl) l _ (when-among l tt (when-among l tt (grants-among l)) (shows .need R A t)));
       worst-time = λ s i n.
           (let l : List ℕ = 2 ∷ 5 ∷ 6 ∷ 7 ∷ 9 ∷ [] in
           says worst.Refused worstOutcome (λ w. refl) l _ (show-among l tt tt tt (when-among l tt (grants-among l)) s tt (shows .worst-time s i n)));

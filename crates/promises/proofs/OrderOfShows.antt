@@ -1,5 +1,5 @@
 -- The order of refusals of the calls on a show. Assumes nothing.
-use Prim.Native.Nat.{ℕ}
+use Prim.Native.Nat.{ℕ, _*_}
 use mathlib.Core.Path.{_≡_, refl, sym, ap, subst, _∙_}
 use mathlib.Core.List.{List, [], _∷_}
 use native.Mathlib.Decide.{decLt}
@@ -9,8 +9,8 @@ use Rattle.show.specs.declared.refusal.Refusal.{Refusal}
 use Rattle.show.specs.declared.refusal.Refusal.the-variants as refusal
 use Rattle.show.specs.declared.refusal.Check.{Check}
 use Rattle.show.specs.declared.refusal.Check.the-variants.{Within, Refused}
-use Rattle.show.specs.Limits.{LaidWithin, PlayingWithin, ShowWithin, layoutAt, sessionAt}
-use Rattle.show.specs.Decisions.{counts?, drive?, layout?, session?}
+use Rattle.show.specs.Limits.{rateMost, LaidWithin, PlayingWithin, ShowWithin, layoutAt, sessionAt}
+use Rattle.show.specs.Decisions.{between?, counts?, drive?, layout?, session?}
 use Rattle.show.specs.Checks.{unless, first, firstBelow, limitsCheck, showCheck, layoutsCheck, sessionsCheck}
 use Rattle.show.specs.Outcomes.{Outcome, granted, refusedBy, checkOutcome}
 use Rattle.show.proofs.Checks.{within-refused, first-within}
@@ -18,10 +18,12 @@ use Rattle.show.proofs.Rows.{row-within, row-kept, row-lowest}
 use Rattle.show.proofs.Shows.{within-check}
 use Rattle.cost.specs.Bound.{worstTime}
 use Rattle.cost.specs.Costs.{costOf}
-use Rattle.verdict.specs.WorstTimes.{worstOf}
+use Rattle.cost.specs.WorstTimes.{limited?, cylinderCheck, costCheck, takesOf, worstOf}
 use Rattle.theory.specs.Counts.{Accepted}
+use Rattle.theory.specs.Rounds.{need}
 use Rattle.theory.specs.Reasons.{tenths}
 use Rattle.theory.specs.Shows.{loadOf}
+use Rattle.count.specs.Answers.{block?, blockCheck, rateCheck, needOf}
 use Rattle.verdict.specs.declared.Decision.{Decision}
 use Rattle.verdict.specs.declared.Trial.{Trial}
 use Rattle.verdict.specs.Answers.{DecisionIs, accepted, no-set, outside, TrialIs, holds, fails, untried, verdictOutcome, answerOutcome}
@@ -33,7 +35,7 @@ use Rattle.run.specs.declared.Opened.{Opened}
 use Rattle.run.specs.Opening.{OpenIs}
 use Rattle.promises.specs.Order.{refusedWith, Grants, _when_else_, Row, LimitsThen, ShowThen, OfShows}
 use Rattle.promises.proofs.Tells.{after, after-first, unless-fails, below-tests, tells-last, tells-then}
-use Rattle.promises.proofs.Tells.{check-outcome, worst-outcome, loaded-outcome, opened-outcome}
+use Rattle.promises.proofs.Tells.{check-outcome, worst-outcome, asked-outcome, loaded-outcome, opened-outcome}
 
 -- ---- rows
 
@@ -119,10 +121,16 @@ module _ (s : Show) where
       rw e (decide-tells d (h .decides))
 
 pub order-of-shows : OfShows
-unfolding worstOf loadedOf
+unfolding takesOf needOf worstOf loadedOf
 order-of-shows =
     record {
       check = λ s. rw (check-outcome (showCheck s)) (show-tells s (granted []) (λ e. refl));
+      takes = λ c N n.
+          rw (worst-outcome (first (cylinderCheck N) (costCheck c)) (worstTime N c n))
+          (tells-then _ (costCheck c) (unless-fails (between? 1 N 65536)) refl (λ e. tells-last _ (unless-fails (limited? c)) refl (λ e. refl)));
+      need = λ R A t.
+          rw (asked-outcome (first (blockCheck A) (rateCheck R)) (need R (A * 1000000) t))
+          (tells-then _ (rateCheck R) (unless-fails (block? A)) refl (λ e. tells-last _ (unless-fails (between? 1 R rateMost)) refl (λ e. refl)));
       worst-time = λ s i n.
           (let k = unless (decLt i (s .playing)) refusal.NoSession in
           let t = worstTime (s .drive .cylinder) (costOf s i) n in

@@ -1,4 +1,4 @@
--- Wrong answers that the contracts rule out, of shows, verdicts and reasons: each is computed, or cites the one answer that there is. Assumes nothing.
+-- Wrong answers that the contracts rule out, of shows, costs, counts, verdicts and reasons: each is computed, or cites the one answer that there is. Assumes nothing.
 use Prim.Native.Nat.{ℕ, _+_, _*_, _≤_}
 use mathlib.Core.Path.{refl, sym, ap, _∙_}
 use mathlib.Core.List.{[], _∷_}
@@ -17,6 +17,13 @@ use Rattle.show.specs.Lists.{listed, padded}
 use Rattle.show.proofs.Shows.{check-within}
 use Rattle.cost.specs.Bound.{worstTime, edges, ceil}
 use Rattle.cost.specs.Costs.{costOf}
+use Rattle.cost.specs.declared.worst.Worst.{Worst}
+use Rattle.cost.specs.declared.worst.Worst.the-variants as worst
+use Rattle.cost.specs.WorstTimes.{limited?, takesOf, worstOf}
+use Rattle.count.specs.declared.Asked.{Asked}
+use Rattle.count.specs.declared.Asked.the-variants as asked
+use Rattle.count.specs.Answers.{block?, needOf}
+use Rattle.theory.specs.Rounds.{need}
 use Rattle.theory.specs.Sum.{sumTo}
 use Rattle.theory.specs.Reasons.{tenths}
 use Rattle.theory.specs.Shows.{loadOf}
@@ -26,9 +33,6 @@ use Rattle.verdict.specs.declared.Verdict.{Verdict}
 use Rattle.verdict.specs.declared.Verdict.the-variants as verdict
 use Rattle.verdict.specs.declared.Answer.{Answer}
 use Rattle.verdict.specs.declared.Answer.the-variants as answer
-use Rattle.verdict.specs.declared.worst.Worst.{Worst}
-use Rattle.verdict.specs.declared.worst.Worst.the-variants as worst
-use Rattle.verdict.specs.WorstTimes.{worstOf}
 use Rattle.verdict.specs.Answers.{TrialIs, holds, setOf, timedAs}
 use Rattle.verdict.proofs.Once.{decision-once, trial-once}
 use Rattle.reason.specs.declared.Reason.{Reason}
@@ -39,7 +43,7 @@ use Rattle.reason.specs.Answers.{ReasonIs, loadedOf}
 use Rattle.reason.proofs.Once.{reason-once}
 use Rattle.promises.specs.Numbers.{X, clip, buffered, showOf, places}
 use Rattle.promises.specs.Refusals.{OneOf}
-use Rattle.promises.specs.RuledOut.{RuledOut, OfShow, OfCost, OfVerdict, OfReason}
+use Rattle.promises.specs.RuledOut.{RuledOut, OfShow, OfCost, OfCount, OfVerdict, OfReason}
 use Rattle.promises.proofs.Apart.{apart, other, checkNumber}
 use Rattle.promises.proofs.Table.{table}
 use Rattle.promises.proofs.Verdict.{verdicts}
@@ -66,10 +70,48 @@ of-show =
       damaged-as-eighteen = λ e. apart (λ (t : Told). t .number) e tt;
     }
 
-of-cost : OfCost
-of-cost = record { long-seek-between-cylinders = λ e. other e tt }
+-- the time or the count of an answer, or the number of its refusal
+abbrev taking : Worst → ℕ
+taking (worst.Takes t) = t
+taking (worst.Refused w) = 0
 
--- the number of an answer, where it is one of an enum; and the times of one that is a time
+abbrev refusing : Worst → ℕ
+refusing (worst.Takes t) = 0
+refusing (worst.Refused w) = numberOf w
+
+abbrev counting : Asked → ℕ
+counting (asked.Count m) = m
+counting (asked.Refused w) = 0
+
+abbrev denying : Asked → ℕ
+denying (asked.Count m) = 0
+denying (asked.Refused w) = numberOf w
+
+of-cost : OfCost
+unfolding takesOf limited? worstOf showCheck firstBelow counts? drive? layout? session? between? decLt decLe ℕ-discrete Dec·and costOf worstTime edges ceil
+of-cost =
+    record {
+      long-seek-between-cylinders = λ e. other e tt;
+      one-crossing-for-eleven = λ e. apart taking e tt;
+      time-on-no-cylinder = λ t e. apart refusing e tt;
+      six-before-five = λ e. apart refusing e tt;
+      fixed-part-forgotten = λ e. apart taking e tt;
+      session-at-the-count = λ t e. apart refusing e tt;
+      eight-for-nine = λ e. apart refusing e tt;
+    }
+
+of-count : OfCount
+unfolding needOf need block? between? decLe ℕ-discrete Dec·and
+of-count =
+    record {
+      product-cut-off = λ e. apart counting e tt;
+      block-of-odd-size = λ m e. apart denying e tt;
+      seven-before-five = λ e. apart denying e tt;
+      enough-is-short = λ n. n (omega arith);
+      a-byte-short-fits = λ h. (let f : ⊥ = omega arith in f);
+    }
+
+-- the number of an answer, where it is one of an enum
 abbrev answered : Answer → ℕ
 answered answer.Holds = 1
 answered answer.Fails = 2
@@ -78,14 +120,6 @@ answered (answer.Refused w) = 3
 abbrev accepting : Verdict → ℕ
 accepting verdict.Accepted = 1
 accepting (verdict.Refused w) = 2
-
-abbrev taking : Worst → ℕ
-taking (worst.Takes t) = t
-taking (worst.Refused w) = 0
-
-abbrev refusing : Worst → ℕ
-refusing (worst.Takes t) = 0
-refusing (worst.Refused w) = numberOf w
 
 -- p3's counts hold.
 three-hold :
@@ -96,7 +130,7 @@ three-hold =
     holds (check-within (showOf X (replicate 3 clip)) refl) (verdicts .told (showOf X (replicate 3 clip)) _ (table .p3 .twice) refl .good)
 
 of-verdict : OfVerdict
-unfolding worstOf showCheck firstBelow counts? drive? layout? session? between? decLt decLe ℕ-discrete Dec·and costOf worstTime edges ceil sumTo listed padded
+unfolding sumTo listed padded
 of-verdict =
     record {
       refused-with-counts = λ s d h w e c. other (sym (ap (λ (x : Decision). setOf (x .counts) 0) (empty .deciding s d h w e)) ∙ c) tt;
@@ -110,9 +144,6 @@ of-verdict =
       fails-though-they-hold = λ t h e. apart answered (sym (ap (λ (x : Trial). x .answer) (trial-once _ _ t _ h three-hold)) ∙ e) tt;
       holds-at-equality = λ t h e. apart answered (sym (ap (λ (x : Trial). x .answer) (trial-once _ _ t _ h (table .p4 .once))) ∙ e) tt;
       nine-hold-at-equality = λ t h e. apart answered (sym (ap (λ (x : Trial). x .answer) (trial-once _ _ t _ h (table .p5 .even))) ∙ e) tt;
-      fixed-part-forgotten = λ e. apart taking e tt;
-      session-at-the-count = λ t e. apart refusing e tt;
-      eight-for-nine = λ e. apart refusing e tt;
     }
 
 -- which reason, and its size
@@ -161,6 +192,7 @@ ruled-out =
     record {
       show = of-show;
       cost = of-cost;
+      count = of-count;
       verdict = of-verdict;
       reason = of-reason;
       run = of-run;

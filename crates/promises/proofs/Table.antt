@@ -20,7 +20,7 @@ use Rattle.show.proofs.Lists.{listed-length, listed-at}
 use Rattle.show.proofs.Shows.{check-within}
 use Rattle.cost.specs.Bound.{worstTime, edges, ceil}
 use Rattle.cost.specs.Costs.{costOf}
-use Rattle.verdict.specs.WorstTimes.{worstOf}
+use Rattle.cost.specs.WorstTimes.{worstOf}
 use Rattle.theory.specs.Sum.{sumTo}
 use Rattle.theory.specs.Counts.{unit, roundTime, needed}
 use Rattle.theory.specs.Rounds.{need, asked, next, turns, NotPast}

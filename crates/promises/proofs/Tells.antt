@@ -13,7 +13,8 @@ use Rattle.show.specs.declared.refusal.Check.{Check}
 use Rattle.show.specs.declared.refusal.Check.the-variants.{Within, Refused}
 use Rattle.show.specs.Outcomes.{Outcome, granted, refusedBy, checkOutcome}
 use Rattle.show.specs.Checks.{unless, first}
-use Rattle.verdict.specs.WorstTimes.{worstAnswer, worstOutcome}
+use Rattle.cost.specs.WorstTimes.{worstAnswer, worstOutcome}
+use Rattle.count.specs.Answers.{askedAnswer, askedOutcome}
 use Rattle.verdict.specs.declared.Verdict.{Verdict}
 use Rattle.verdict.specs.declared.Verdict.the-variants as verdict
 use Rattle.verdict.specs.Answers.{verdictOutcome}
@@ -84,6 +85,10 @@ outcome-by {k = k} e = ap checkOutcome e ∙ check-outcome k
 pub worst-outcome : (k : Check) (t : ℕ) → worstOutcome (worstAnswer k t) ≡ after k (granted (pos t ∷ []))
 worst-outcome Within t = refl
 worst-outcome (Refused w) t = refl
+
+pub asked-outcome : (k : Check) (m : ℕ) → askedOutcome (askedAnswer k m) ≡ after k (granted (pos m ∷ []))
+asked-outcome Within m = refl
+asked-outcome (Refused w) m = refl
 
 pub loaded-outcome : (k : Check) (t : ℕ) → loadedOutcome (reason.loadAnswer k t) ≡ after k (granted (pos t ∷ []))
 loaded-outcome Within t = refl

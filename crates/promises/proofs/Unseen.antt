@@ -21,7 +21,7 @@ use Rattle.cost.specs.declared.Cost.{Cost}
 use Rattle.cost.specs.Bound.{worstTime}
 use Rattle.cost.specs.Costs.{costOf}
 use Rattle.cost.proofs.Costs.{alike-cost}
-use Rattle.verdict.proofs.WorstTimes.{alike-worst}
+use Rattle.cost.proofs.WorstTimes.{alike-worst}
 use Rattle.showfile_write.proofs.Unused.{written-same, buffer-same}
 use Rattle.showfile_write.proofs.UnusedAgain.{reread-same}
 use Rattle.theory.specs.Slack.{less?, rank, slack}

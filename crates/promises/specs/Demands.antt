@@ -83,12 +83,12 @@ pub record Third : Type 0 where
 -- Two results that satisfy one statement are equal, for every public call.
 pub record Once : Type 1 where
   -- The statement is an equation, of what is answered and of every byte or state that is lent: `Show::nothing`, `Show::check`,
-  -- `Refusal::told`, `Cost::of_read`, `worst_time`, `load`, `read`, `note`, `write`, `reread`, `copy`, `Run::with_cycle`, `test_run`,
+  -- `Refusal::told`, `Cost::of_read`, `Cost::takes`, `worst_time`, `need`, `load`, `read`, `note`, `write`, `reread`, `copy`, `Run::with_cycle`, `test_run`,
   -- `pass`, `take`, `finish`, `choose`, `workahead`, `slack`, `start`, the player's `take_from`, `take` and `take_lent`; and, of texts, `find`,
   -- `parts`, `part`, `decimal`, `unhex`, `put_word`, `put_numbered`, `put_form`, `put_hex`.
   pub equation : {A : Type 0} (meaning x y : A) → x ≡ meaning → y ≡ meaning → x ≡ y
   -- It tells of a limit, of room, or of two texts: `Drive::within`, `Layout::within`, `Session::within`, `Show::counts_within`, `State::within`,
-  -- `State::room`, `same`.
+  -- `State::room`, `fits`, `same`.
   pub test : (p : Type 0) (a b : Bool) → Tells a p → Tells b p → a ≡ b
   -- `place_in`
   pub place : (names word : List ℕ) (a b : ℕ) → PlaceIs names word a → PlaceIs names word b → a ≡ b

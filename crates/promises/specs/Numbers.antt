@@ -14,8 +14,8 @@ use Rattle.show.specs.declared.refusal.Refusal.the-variants.{NoSet}
 use Rattle.show.specs.declared.refusal.Check.the-variants.{Within}
 use Rattle.show.specs.Limits.{Between, ShowWithin, bufferMost, noLayout, noSession}
 use Rattle.show.specs.Lists.{listed}
-use Rattle.verdict.specs.declared.worst.Worst.the-variants.{Takes}
-use Rattle.verdict.specs.WorstTimes.{worstOf}
+use Rattle.cost.specs.declared.worst.Worst.the-variants.{Takes}
+use Rattle.cost.specs.WorstTimes.{worstOf}
 use Rattle.theory.specs.Slack.{slackBy}
 use Rattle.theory.specs.Counts.{unit, roundTime}
 use Rattle.theory.specs.Shows.{loadOf}

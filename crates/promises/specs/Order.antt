@@ -13,7 +13,10 @@ use Rattle.show.specs.Limits.{Between, CountsWithin, DriveWithin, LaidWithin, P
 use Rattle.show.specs.Faults.{Lowest}
 use Rattle.show.specs.Outcomes.{Outcome, granted, checkOutcome}
 use Rattle.show.specs.Checks.{showCheck}
-use Rattle.verdict.specs.WorstTimes.{worstOf, worstOutcome}
+use Rattle.cost.specs.declared.Cost.{Cost}
+use Rattle.cost.specs.Bound.{Limited}
+use Rattle.cost.specs.WorstTimes.{takesOf, worstOf, worstOutcome}
+use Rattle.count.specs.Answers.{BlockWithin, RateWithin, needOf, askedOutcome}
 use Rattle.theory.specs.Counts.{Accepted}
 use Rattle.theory.specs.Shows.{loadOf}
 use Rattle.verdict.specs.declared.Decision.{Decision}
@@ -83,6 +86,9 @@ ShowThen s rest = 2 when (CountsWithin (s .laid) (s .playing) → ⊥) else Limi
 
 pub record OfShows : Type 0 where
   pub check : (s : Show) → checkOutcome (showCheck s) tells ShowThen s Grants
+  pub takes :
+      (c : Cost) (N n : ℕ) → worstOutcome (takesOf c N n) tells 5 when (Between 1 N 65536 → ⊥) else 6 when (Limited c → ⊥) else Grants
+  pub need : (R A t : ℕ) → askedOutcome (needOf R A t) tells 5 when (BlockWithin A → ⊥) else 7 when (RateWithin R → ⊥) else Grants
   pub worst-time : (s : Show) (i n : ℕ) → worstOutcome (worstOf s i n) tells ShowThen s (9 when s .playing ≤ i else Grants)
   pub deciding :
       (s : Show) (d : Decision) → DecisionIs s d → verdictOutcome (d .verdict) tells ShowThen s (8 when (Accepted (loadOf s) → ⊥) else Grants)

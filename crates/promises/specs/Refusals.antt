@@ -13,8 +13,11 @@ use Rattle.show.specs.Limits.{Between, noShow}
 use Rattle.show.specs.Refusals.{numberOf, placeOf, toldOf}
 use Rattle.show.specs.Checks.{showCheck}
 use Rattle.show.specs.Outcomes.{Outcome, checkOutcome}
-use Rattle.verdict.specs.declared.worst.Worst.the-variants as worst
-use Rattle.verdict.specs.WorstTimes.{worstOf, worstOutcome}
+use Rattle.cost.specs.declared.Cost.{Cost}
+use Rattle.cost.specs.declared.worst.Worst.the-variants as worst
+use Rattle.cost.specs.WorstTimes.{takesOf, worstOf, worstOutcome}
+use Rattle.count.specs.declared.Asked.the-variants as asked
+use Rattle.count.specs.Answers.{needOf, askedOutcome}
 use Rattle.showfile.specs.declared.Written.{Written}
 use Rattle.showfile.specs.Answers.{readOf, noteOf}
 use Rattle.showfile_write.specs.Answers.{writtenOf, bufferOf}
@@ -59,6 +62,7 @@ KnownBy {A} outcome = (a b : A) → outcome a ≡ outcome b → a ≡ b
 pub record Known : Type 0 where
   pub check : KnownBy checkOutcome
   pub worst : KnownBy worstOutcome
+  pub asked : KnownBy askedOutcome
   pub verdict : KnownBy verdictOutcome
   pub answer : KnownBy answerOutcome
   pub reason : KnownBy reasonOutcome
@@ -78,6 +82,8 @@ pub record Numbered : Type 0 where
 -- No call says another number than these. Which of them, and when: record Order (specs/Order).
 pub record Only : Type 0 where
   pub check : (s : Show) → Says Refused (showCheck s) (2 ∷ 5 ∷ 6 ∷ 7 ∷ [])
+  pub takes : (c : Cost) (N n : ℕ) → Says worst.Refused (takesOf c N n) (5 ∷ 6 ∷ [])
+  pub need : (R A t : ℕ) → Says asked.Refused (needOf R A t) (5 ∷ 7 ∷ [])
   pub worst-time : (s : Show) (i n : ℕ) → Says worst.Refused (worstOf s i n) (2 ∷ 5 ∷ 6 ∷ 7 ∷ 9 ∷ [])
   pub reading : (f : List ℕ) → Says Refused (readOf f .check) (1 ∷ 2 ∷ 3 ∷ 4 ∷ 5 ∷ 6 ∷ 7 ∷ [])
   pub writing : (x : Show) (note : List ℕ) (room : ℕ) → Says Refused (writtenOf x note room .check) (2 ∷ 4 ∷ 5 ∷ 6 ∷ 7 ∷ 16 ∷ [])

@@ -1,5 +1,5 @@
 -- Wrong answers that the contracts rule out: each field says of one call, in one situation, that its contract with this answer is absurd. Another wrong
--- answer of each call is an edit of the code, in the crate's must-fail. Here: shows, verdicts, reasons. proofs/RuledOut.antt proves it.
+-- answer of each call is an edit of the code, in the crate's must-fail. Here: shows, costs, counts, verdicts, reasons. proofs/RuledOut.antt proves it.
 use Prim.Native.Nat.{ℕ}
 use mathlib.Core.Path.{_≡_}
 use mathlib.Core.Bool.{true, false}
@@ -7,18 +7,20 @@ use mathlib.Core.List.{[], _∷_, _++_}
 use lib.ListN.{replicate}
 use Rattle.show.specs.declared.Show.{Show}
 use Rattle.show.specs.declared.refusal.Refusal.{Refusal}
-use Rattle.show.specs.declared.refusal.Refusal.the-variants.{LayoutLimits, NoSet, Damaged}
+use Rattle.show.specs.declared.refusal.Refusal.the-variants.{LayoutLimits, SessionLimits, NoSet, Damaged}
 use Rattle.show.specs.declared.refusal.Check.the-variants as check
 use Rattle.show.specs.Limits.{Tells, DriveWithin, LayoutWithin, SessionWithin, CountsWithin, noLayout, noSession, noShow, bufferMost}
 use Rattle.show.specs.Refusals.{toldOf}
 use Rattle.show.specs.Checks.{showCheck}
 use Rattle.cost.specs.Costs.{readCost}
+use Rattle.cost.specs.declared.worst.Worst.the-variants as worst
+use Rattle.cost.specs.WorstTimes.{takesOf, worstOf}
+use Rattle.count.specs.declared.Asked.the-variants as asked
+use Rattle.count.specs.Answers.{Buffered, needOf}
 use Rattle.verdict.specs.declared.Decision.{Decision}
 use Rattle.verdict.specs.declared.Trial.{Trial}
 use Rattle.verdict.specs.declared.Verdict.the-variants as verdict
 use Rattle.verdict.specs.declared.Answer.the-variants as answer
-use Rattle.verdict.specs.declared.worst.Worst.the-variants as worst
-use Rattle.verdict.specs.WorstTimes.{worstOf}
 use Rattle.verdict.specs.Answers.{DecisionIs, TrialIs, setOf}
 use Rattle.reason.specs.declared.Reason.the-variants as reason
 use Rattle.reason.specs.declared.Loaded.the-variants.{Tenths}
@@ -56,6 +58,23 @@ pub record OfShow : Type 0 where
 pub record OfCost : Type 0 where
   -- `Cost::of_read`: the longest seek at each cylinder edge
   pub long-seek-between-cylinders : readCost X .cross ≡ 20000 → ⊥
+  -- `Cost::takes`: U(11) on cylinders of 10 blocks with one crossing; a time on cylinders of none; where both limits are broken, 6
+  pub one-crossing-for-eleven : takesOf (readCost X) 10 11 ≡ worst.Takes 142000 → ⊥
+  pub time-on-no-cylinder : (t : ℕ) → takesOf (readCost X) 0 1 ≡ worst.Takes t → ⊥
+  pub six-before-five : takesOf (record { fixed = 5000001; each = 1; cross = 0 }) 0 1 ≡ worst.Refused (LayoutLimits 0) → ⊥
+  -- `worst_time`: U(1) without the long seek and the rotations; a time for no such session; 8 for it
+  pub fixed-part-forgotten : worstOf (showOf X (clip ∷ [])) 0 1 ≡ worst.Takes 14000 → ⊥
+  pub session-at-the-count : (t : ℕ) → worstOf (showOf X (clip ∷ [])) 1 1 ≡ worst.Takes t → ⊥
+  pub eight-for-nine : worstOf (showOf X (clip ∷ [])) 1 1 ≡ worst.Refused NoSet → ⊥
+
+pub record OfCount : Type 0 where
+  -- `need`: of the highest rate over the longest time, with R x t cut off at 64 bits; in blocks of 513 bytes; where both limits are broken, 7
+  pub product-cut-off : needOf 100000000 512 18446744073709551615 ≡ asked.Count 36028797019 → ⊥
+  pub block-of-odd-size : (m : ℕ) → needOf 512000 513 1 ≡ asked.Count m → ⊥
+  pub seven-before-five : needOf 0 0 1 ≡ asked.Refused (SessionLimits 0) → ⊥
+  -- `fits`: no to p2's buffer, and yes with a byte less
+  pub enough-is-short : Tells false (Buffered 51200 (buffered 102401) 1) → ⊥
+  pub a-byte-short-fits : Tells true (Buffered 51200 (buffered 102400) 1) → ⊥
 
 pub record OfVerdict : Type 0 where
   -- `decide`: with a no, counts
@@ -72,10 +91,6 @@ pub record OfVerdict : Type 0 where
   pub fails-though-they-hold : (t : Trial) → TrialIs (showOf X (replicate 3 clip)) (places (replicate 3 2)) t → t .answer ≡ answer.Fails → ⊥
   pub holds-at-equality : (t : Trial) → TrialIs (showOf far (replicate 2 clip)) (places (replicate 2 1)) t → t .answer ≡ answer.Holds → ⊥
   pub nine-hold-at-equality : (t : Trial) → TrialIs (showOf Z (replicate 9 clip)) (places (replicate 9 27)) t → t .answer ≡ answer.Holds → ⊥
-  -- `worst_time`: U(1) without the long seek and the rotations; a time for no such session; 8 for it
-  pub fixed-part-forgotten : worstOf (showOf X (clip ∷ [])) 0 1 ≡ worst.Takes 14000 → ⊥
-  pub session-at-the-count : (t : ℕ) → worstOf (showOf X (clip ∷ [])) 1 1 ≡ worst.Takes t → ⊥
-  pub eight-for-nine : worstOf (showOf X (clip ∷ [])) 1 1 ≡ worst.Refused NoSet → ⊥
 
 pub record OfReason : Type 0 where
   -- `why`, of p2 with a buffer a byte short: beyond; a size without the one block more; a size that is too small as well
@@ -94,6 +109,7 @@ pub record OfReason : Type 0 where
 pub record RuledOut : Type 0 where
   pub show : OfShow
   pub cost : OfCost
+  pub count : OfCount
   pub verdict : OfVerdict
   pub reason : OfReason
   pub run : OfRun

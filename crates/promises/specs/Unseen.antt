@@ -6,7 +6,7 @@ use mathlib.Core.List.{List}
 use Rattle.show.specs.declared.Show.{Show}
 use Rattle.show.specs.Limits.{Alike}
 use Rattle.show.specs.Checks.{showCheck}
-use Rattle.verdict.specs.WorstTimes.{worstOf}
+use Rattle.cost.specs.WorstTimes.{worstOf}
 use Rattle.showfile_write.specs.Answers.{writtenOf, bufferOf}
 use Rattle.showfile_write.specs.Trips.{rereadOf}
 use Rattle.run.specs.declared.Run.{Run}

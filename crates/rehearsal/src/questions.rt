@@ -25,8 +25,8 @@ use text::put_numbered;
 use text::put_word;
 use verdict::Answer;
 use verdict::Verdict;
-use verdict::worst::Worst;
-use verdict::worst::worst_time;
+use cost::worst::Worst;
+use cost::worst::worst_time;
 
 // A written buffer in hex and a show are the longest.
 const OUT: usize = 16_384;
