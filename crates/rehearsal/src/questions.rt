@@ -14,6 +14,8 @@ use crate::given::taking_of;
 use crate::output::said;
 use crate::texts::put_explanation;
 use crate::texts::put_report;
+use cost::worst::Worst;
+use cost::worst::worst_time;
 use parse::part;
 use reason::Loaded;
 use reason::Reason;
@@ -25,8 +27,6 @@ use text::put_numbered;
 use text::put_word;
 use verdict::Answer;
 use verdict::Verdict;
-use cost::worst::Worst;
-use cost::worst::worst_time;
 
 // A written buffer in hex and a show are the longest.
 const OUT: usize = 16_384;
