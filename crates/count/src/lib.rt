@@ -57,7 +57,7 @@ pub fn need(rate: u32, block: u32, t: u64) -> Asked
     Asked::Count(ahead(rate, span))
 }
 
-// Whether the session's buffer takes the count and one block more, and its cushion. This needs no limits: 64 bits take the sum of any three.
+// Whether the session's buffer takes its cushion, the count and one block more. No limit is tested: of any numbers of 32 bits the sum fits 64.
 pub fn fits(session: Session, block: u32, count: u32) -> bool
     ensures { λ r. ⌜ Tells r (Buffered block session count) ⌝ }
 {
