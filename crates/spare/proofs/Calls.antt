@@ -1,6 +1,6 @@
 -- What each call answers, case by case. Assumes nothing.
 use Prim.Native.Nat.{ℕ, _≤_, _<_}
-use mathlib.Core.Path.{_≡_, sym, ap, _∙_}
+use mathlib.Core.Path.{_≡_, refl, sym, ap, _∙_}
 use mathlib.Core.Bool.{true, false}
 use mathlib.Core.Logic.{if-pos, if-neg}
 use mathlib.Core.List.{List}
@@ -19,7 +19,7 @@ use Rattle.theory.specs.Slack.{less?}
 use Rattle.theory.proofs.Slack.{rank-below, rank-apart}
 use Rattle.run.specs.declared.Underway.the-variants as underway
 use Rattle.run.specs.declared.Run.{Run}
-use Rattle.run.specs.Run.{playing, leftIn}
+use Rattle.run.specs.Run.{playing, clipAt, stateAt, leftIn}
 use Rattle.run.specs.Sound.{SoundRun, NamesEach}
 use Rattle.run.specs.Decisions.{false?}
 use Rattle.run.specs.Answers.{moved, freeCheck}
@@ -28,11 +28,16 @@ use Rattle.run.proofs.Orders.{names-below}
 use Rattle.run.proofs.Answered.{damaged-first, sound-then}
 use Rattle.run.specs.declared.Moved.{Moved}
 use Rattle.run.proofs.Answered.{granted, refused, moved-refused, moved-granted}
-use Rattle.spare.specs.declared.Spare.the-variants as spare
+use Rattle.standing.specs.declared.Spare.{Spare}
+use Rattle.standing.specs.declared.Spare.the-variants as spare
+use Rattle.standing.specs.Standing.{standingOf}
+use Rattle.standing.specs.Answers.{aheadFor, slackFor}
+use Rattle.standing.proofs.Calls.{run-nobody, run-slack, run-ahead}
 use Rattle.spare.specs.declared.Spared.{Spared}
-use Rattle.spare.specs.Times.{aheadAt, slackTime, placeAt, startOrder, running}
+use Rattle.standing.specs.Times.{aheadAt, slackTime, placeAt}
+use Rattle.spare.specs.Times.{startOrder, running}
 use Rattle.spare.specs.Answers.{spared, workaheadOf, someCheck, slackOf, onceCheck, slackCheck, startCheck, startOf}
-use Rattle.spare.proofs.Orders.{named-each}
+use Rattle.standing.proofs.Orders.{named-each}
 
 -- ---- by the check
 
@@ -68,6 +73,13 @@ module _ (r : Run) (i : ℕ) where
     workahead-time z l e =
         spared-timed _ _ r z (sound-then r _ s ∙ unless-kept (decLt i (playing r)) refusal.NoSession l) e
 
+    -- what `ahead_of` answers of its state
+    pub workahead-for : (a : Spare) → i < playing r → a ≡ aheadFor (clipAt r i) (stateAt r i) → record { spare = a; run = r } ≡ workaheadOf r i
+    workahead-for a l e = ap answer (e ∙ sym (run-ahead r s i l)) ∙ workahead-time (aheadAt r i) l refl
+      where
+        answer : Spare → Spared
+        answer x = record { spare = x; run = r }
+
 -- ---- slack
 
 module _ (r : Run) where
@@ -90,7 +102,24 @@ module _ (r : Run) where
     unfolding slackOf
     slack-time z l e = spared-timed _ _ r z (sound-then r _ s ∙ somebody l) e
 
+    -- the slack of its standing
+    pub slack-stood : (a : Spare) → a ≡ slackFor (standingOf r) → record { spare = a; run = r } ≡ slackOf r
+    slack-stood a e =
+        elim (decLt 0 (playing r)) [
+          | yes l ↦ ap answer (e ∙ sym (run-slack r s l)) ∙ slack-time (slackTime r) l refl
+          | no n ↦ (let z : playing r ≡ 0 = omega arith in ap answer (e ∙ sym (run-nobody r s z)) ∙ slack-empty z)
+        ]
+      where
+        answer : Spare → Spared
+        answer x = record { spare = x; run = r }
+
   -- ---- start
+
+  pub begin-some : 0 < playing r → moved (slackCheck r) r (running r) ≡ moved (first (someCheck r) (slackCheck r)) r (running r)
+  begin-some l = ap (λ (x : Check). moved x r (running r)) (sym (first-within _ (slackCheck r) (somebody l)))
+
+  pub begin-empty : playing r ≡ 0 → refused r refusal.NoSession ≡ moved (first (someCheck r) (slackCheck r)) r (running r)
+  begin-empty e = moved-refused _ r _ refusal.NoSession (first-refused _ (slackCheck r) (nobody e))
 
   pub start-damaged : (SoundRun r → ⊥) → refused r refusal.Damaged ≡ startOf r
   unfolding startOf startCheck
@@ -117,17 +146,12 @@ module _ (r : Run) where
         free : (c : Check) → first (freeCheck (r .underway)) c ≡ c
         free c = first-within _ c (ap freeCheck u)
 
-        pub start-empty : playing r ≡ 0 → refused r refusal.NoSession ≡ startOf r
+        pub start-begun : (m : Moved) → m ≡ moved (first (someCheck r) (slackCheck r)) r (running r) → m ≡ startOf r
         unfolding startOf startCheck
-        start-empty z =
-            moved-refused _ r _ refusal.NoSession (sound-then r _ s ∙ fresh _ ∙ free _ ∙ first-refused _ _ (nobody z))
+        start-begun m f = f ∙ ap (λ (x : Check). moved x r (running r)) (sym (sound-then r _ s ∙ fresh _ ∙ free _))
 
         pub start-begins : (m : Moved) → 0 < playing r → m ≡ moved (slackCheck r) r (running r) → m ≡ startOf r
-        unfolding startOf startCheck
-        start-begins m l f =
-            f
-            ∙ ap (λ (x : Check). moved x r (running r))
-            (sym (sound-then r _ s ∙ fresh _ ∙ free _ ∙ first-within _ _ (somebody l)))
+        start-begins m l f = start-begun m (f ∙ begin-some l)
 
   pub begin-negative : slackTime r <ℤ pos 0 → refused r refusal.NegativeSlack ≡ moved (slackCheck r) r (running r)
   unfolding slackCheck

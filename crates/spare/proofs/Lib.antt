@@ -1,8 +1,3 @@
-pub mod Truncated
-pub mod Aheads
-pub mod Orders
-pub mod Standings
-pub mod Seats
 pub mod Calls
 pub mod Laws
 pub mod Lighter

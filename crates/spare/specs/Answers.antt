@@ -1,6 +1,5 @@
 -- What each call answers: docs/RULES.md, section 10.
 use Prim.Native.Nat.{ℕ}
-use mathlib.Core.List.{[], _∷_}
 use mathlib.Core.Logic.{ite}
 use native.Mathlib.Decide.{decLt}
 use lib.IntN.{ℤ, pos}
@@ -8,17 +7,16 @@ use Rattle.show.specs.declared.refusal.Refusal.the-variants as refusal
 use Rattle.show.specs.declared.refusal.Check.{Check}
 use Rattle.show.specs.declared.refusal.Check.the-variants.{Within, Refused}
 use Rattle.show.specs.Checks.{unless, first}
-use Rattle.show.specs.Outcomes.{Outcome, granted, refusedBy}
 use Rattle.theory.specs.Slack.{less?}
 use Rattle.run.specs.declared.Run.{Run}
 use Rattle.run.specs.Run.{playing}
 use Rattle.run.specs.Decisions.{false?, soundCheck}
 use Rattle.run.specs.Answers.{moved, presentCheck, freeCheck}
 use Rattle.run.specs.declared.Moved.{Moved}
-use Rattle.spare.specs.declared.Spare.{Spare}
-use Rattle.spare.specs.declared.Spare.the-variants as spare
+use Rattle.standing.specs.declared.Spare.the-variants as spare
+use Rattle.standing.specs.Times.{aheadAt, slackTime}
 use Rattle.spare.specs.declared.Spared.{Spared}
-use Rattle.spare.specs.Times.{aheadAt, slackTime, running}
+use Rattle.spare.specs.Times.{running}
 
 -- A time, or why there is none; the run as it was given in either case.
 abbrev pub spared : Check → ℤ → Run → Spared
@@ -52,8 +50,3 @@ startCheck r =
 
 unfoldable pub startOf : Run → Moved
 startOf r = moved (startCheck r) r (running r)
-
--- the time in µs, or the refusal
-abbrev pub spareOutcome : Spare → Outcome
-spareOutcome (spare.Time z) = granted (z ∷ [])
-spareOutcome (spare.Refused w) = refusedBy w

@@ -1,4 +1,3 @@
 pub mod Times
-pub mod Standing
 pub mod Answers
 pub mod Laws

@@ -1,20 +1,13 @@
 // Spare time: how far a session is ahead of its player, what a run has to spare, and the start. docs/RULES.md, section 10.
-mod ahead;
-mod order;
-mod standing;
-
 ghost use mathlib.Core.Path.{_≡_};
 ghost use Prim.Native.Nat.{_<_};
+ghost use Rattle.show.specs.Checks.{first};
 ghost use Rattle.run.specs.Run.{playing};
 ghost use Rattle.run.specs.Sound.{SoundRun};
 ghost use Rattle.run.specs.Answers.{moved};
+ghost use Rattle.standing.specs.Standing.{placesOf, aheadsOf, aheadIn, standingOf};
 ghost use Rattle.spare.specs.Times.{running};
-ghost use Rattle.spare.specs.Standing.{placesOf, aheadsOf, aheadIn};
-ghost use Rattle.spare.specs.Answers.{workaheadOf, slackOf, slackCheck, startOf};
-use crate::ahead::ahead;
-use crate::order::ordered;
-use crate::standing::least;
-use crate::standing::survey;
+ghost use Rattle.spare.specs.Answers.{workaheadOf, slackOf, someCheck, slackCheck, startOf};
 use run::Moved;
 use run::Run;
 use run::Underway;
@@ -23,12 +16,12 @@ use run_test::Test;
 use run_test::test_run;
 use show::refusal::Check;
 use show::refusal::Refusal;
-
-// A time in µs, which may be below zero, or why there is none.
-pub enum Spare {
-    Time(i64),
-    Refused(Refusal),
-}
+use standing::Spare;
+use standing::Standing;
+use standing::ahead_of;
+use standing::order::ordered;
+use standing::slack_in;
+use standing::stand;
 
 // The answer, and the run as it was given.
 pub struct Spared {
@@ -54,7 +47,7 @@ pub fn workahead(run: Run, session: usize) -> Spared
     }
     let show = run.show;
     Spared {
-        spare: Spare::Time(ahead(run.states[session], show.sessions[session])),
+        spare: ahead_of(show.sessions[session], run.states[session]),
         run,
     }
 }
@@ -63,20 +56,16 @@ pub fn workahead(run: Run, session: usize) -> Spared
 pub fn slack(run: Run) -> Spared
     ensures { λ r. ⌜ r ≡ slackOf run ⌝ }
 {
-    let Test::Sound = test_run(run) else {
+    let stood = stand(run);
+    let check = stood.check;
+    let Check::Within = check else {
         return Spared {
             spare: Spare::Refused(Refusal::Damaged),
             run,
         };
     };
-    if run.show.playing == 0 {
-        return Spared {
-            spare: Spare::Refused(Refusal::NoSession),
-            run,
-        };
-    }
     Spared {
-        spare: Spare::Time(least(survey(run))),
+        spare: slack_in(stood.standing),
         run,
     }
 }
@@ -85,7 +74,9 @@ pub fn slack(run: Run) -> Spared
 pub fn start(run: Run) -> Moved
     ensures { λ r. ⌜ r ≡ startOf run ⌝ }
 {
-    let Test::Sound = test_run(run) else {
+    let stood = stand(run);
+    let check = stood.check;
+    let Check::Within = check else {
         return Moved {
             check: Check::Refused(Refusal::Damaged),
             run,
@@ -104,23 +95,21 @@ pub fn start(run: Run) -> Moved
             run,
         };
     };
-    if run.show.playing == 0 {
+    begin(run, stood.standing)
+}
+
+// A run in this standing starts if someone plays and it has slack of 0 or more.
+fn begin(run: Run, standing: Standing) -> Moved
+    requires { ⌜ SoundRun run × (standing ≡ standingOf run) ⌝ }
+    ensures { λ r. ⌜ r ≡ moved (first (someCheck run) (slackCheck run)) run (running run) ⌝ }
+{
+    let Spare::Time(spare) = slack_in(standing) else {
         return Moved {
             check: Check::Refused(Refusal::NoSession),
             run,
         };
-    }
-    begin(run)
-}
-
-// A run with someone in it starts if it has slack of 0 or more.
-fn begin(run: Run) -> Moved
-    requires { ⌜ SoundRun run ⌝ }
-    requires { ⌜ 0 < playing run ⌝ }
-    ensures { λ r. ⌜ r ≡ moved (slackCheck run) run (running run) ⌝ }
-{
-    let standing = survey(run);
-    if least(standing) < 0 {
+    };
+    if spare < 0 {
         return Moved {
             check: Check::Refused(Refusal::NegativeSlack),
             run,

@@ -1,43 +1,67 @@
--- `begin` starts a run that has the time. Assumes nothing.
+-- `begin` starts a run that has someone in it and the time. Assumes nothing.
 use Prim.Native.Nat.{_<_}
-use mathlib.Core.Path.{_≡_, sym, ap, subst, _∙_}
-use Rattle.spare.specs.declared.standing.Standing.{Standing}
-use Rattle.spare.specs.Times.{slackTime}
-use Rattle.spare.specs.Standing.{Fit, slackIn}
+use mathlib.Core.Path.{_≡_, sym, ap, _∙_}
+use Rattle.standing.specs.declared.Standing.{Standing}
+use Rattle.standing.specs.Times.{slackTime}
+use Rattle.standing.specs.Answers.{slackFor}
+use Rattle.run.specs.Run.{playing}
 use mir.Syntax.{w64}
 use mir.Val.{toZ, ofZ}
+use lib.Signed.{ltZ}
+use lib.IntN.{ℤ, pos}
+use mathlib.Core.Bool.{true, false}
 use borrow.Author.Needs.{needs}
-use Rattle.spare.proofs.Orders.{test-less, test-not}
-use Rattle.spare.proofs.Standings.{standing-fit, slack-in}
-use Rattle.spare.proofs.Calls.{begin-negative, begin-granted}
+use Rattle.standing.proofs.Orders.{test-less, test-not}
+use Rattle.standing.proofs.Calls.{run-told, run-refused}
+use Rattle.spare.proofs.Calls.{begin-empty, begin-some, begin-negative, begin-granted}
 use Rattle.spare.proofs.begin.Tie as tie
 use Rattle.spare.proofs.begin.Statement.{statement}
 
-ready : (c : tie.After-survey) → Fit (c .survey .result) × (0 < c .survey .result .playing)
-ready c =
-    (standing-fit (c .before .args .run) (c .before .pre .0) _ (c .survey .ensures), subst (λ (t : Standing). 0 < t .playing) (sym (c .survey .ensures)) (c .before .pre .1))
-
-slack-is : (c : tie.After-least) → toZ w64 (ofZ w64 (c .least .result)) ≡ slackTime (c .before .before .args .run)
-slack-is c =
-    let b : toZ w64 (ofZ w64 (c .least .result)) ≡ c .least .result = search needs in
-    b ∙ c .least .ensures ∙ ap slackIn (c .before .survey .ensures) ∙ slack-in (c .before .before .args .run) (c .before .before .pre .1)
-
-survey-requires : tie.Need-survey-requires
-survey-requires c κs = c .pre .0
-
-least-requires : tie.Need-least-requires
-least-requires c κs = ready c
-
 returns : tie.Need-returns
-returns c = begin-negative (c .before .before .before .args .run) (test-less (rw (slack-is (c .before)) at (c .if1 .taken)))
+returns c =
+    let s = c .before .before .before in
+    begin-empty _ (run-refused _ (s .pre .0) (ap slackFor (sym (s .pre .1)) ∙ sym (c .before .before .slack-in .ensures) ∙ c .enum-told .given .1))
+
+-- what the standing has to spare, as it was told
+abbrev told : tie.After-known-told → ℤ
+told c = c .before .spare .given .0 .0
+
+told-fits : (c : tie.After-known-told) → toZ w64 (ofZ w64 (told c)) ≡ told c
+told-fits c = search needs
+
+slack-is : (c : tie.After-known-told) → (0 < playing (c .before .before .before .before .args .run)) × (told c ≡ slackTime (c .before .before .before .before .args .run))
+slack-is c =
+    let s = c .before .before .before .before in
+    run-told _ (s .pre .0) (told c) (ap slackFor (sym (s .pre .1)) ∙ sym (c .before .before .before .slack-in .ensures) ∙ c .before .spare .given .1)
+
+returns-2 : tie.Need-returns-2
+returns-2 c =
+    let d = c .before in
+    let r = d .before .before .before .before .args .run in
+    let e : ltZ (toZ w64 (ofZ w64 (told d))) (pos 0) ≡ true = c .if1 .taken in
+    begin-negative r (test-less (rw (told-fits d, slack-is d .1) at e)) ∙ begin-some r (slack-is d .0)
 
 cycling-requires : tie.Need-cycling-requires
 cycling-requires c κs =
-    let d = c .before .before .before .before in
-    (d .pre .0, (d .pre .1, ap (λ (t : Standing). t .places) (c .before .before .before .survey .ensures)))
+    let d = c .before .before in
+    let s = d .before .before .before .before in
+    (s .pre .0, (slack-is d .0, ap (λ (t : Standing). t .places) (s .pre .1)))
 
-returns-2 : tie.Need-returns-2
-returns-2 c = begin-granted (c .before .before .before .before .before .args .run) _ (test-not (rw (slack-is (c .before .before .before)) at (c .before .before .if1 .left))) (c .cycling .ensures)
+returns-3 : tie.Need-returns-3
+returns-3 c =
+    let d = c .before .before .before in
+    let r = d .before .before .before .before .args .run in
+    let e : ltZ (toZ w64 (ofZ w64 (told d))) (pos 0) ≡ false = c .before .before .if1 .left in
+    begin-granted r _ (test-not (rw (told-fits d, slack-is d .1) at e)) (c .cycling .ensures) ∙ begin-some r (slack-is d .0)
 
 pub begin-spec : {M : Type 1} → statement M
-begin-spec = tie.close (tie.spec survey-requires least-requires returns cycling-requires returns-2)
+begin-spec =
+    tie.close
+    (tie.spec
+    (λ c κs. search needs)
+    (λ c. search needs)
+    (λ c. search needs)
+    returns
+    returns-2
+    cycling-requires
+    returns-3)

@@ -1,12 +1,10 @@
 -- `workahead` answers that of one session. Assumes nothing.
-use mir.Syntax.{w64}
-use mir.Val.{toZ, ofZ}
-use mathlib.Core.Path.{_≡_, _∙_}
+use Prim.Native.Nat.{_<_}
 use native.Mathlib.Omega.{arith}
 use Rattle.run.specs.Sound.{SoundRun}
 use Rattle.run_test.proofs.Tests.{tested-sound, tested-damaged}
-use Rattle.spare.proofs.Aheads.{counting}
-use Rattle.spare.proofs.Calls.{workahead-damaged, workahead-nobody, workahead-time}
+use Rattle.standing.proofs.Aheads.{counting}
+use Rattle.spare.proofs.Calls.{workahead-damaged, workahead-nobody, workahead-for}
 use borrow.Author.Needs.{needs}
 use Rattle.spare.proofs.workahead.Tie as tie
 use Rattle.spare.proofs.workahead.Statement.{statement}
@@ -14,31 +12,25 @@ use Rattle.spare.proofs.workahead.Statement.{statement}
 sound : (c : tie.After-enum-told) → SoundRun (c .before .before .before .args .t1)
 sound c = tested-sound _ _ (c .before .before .test-run .ensures) (c .enum-told .given .1)
 
+few : (c : tie.Else1) → c .before .before .before .before .args .session < 16
+few c = counting _ (sound (c .before)) _ (c .if1 .left) .place
+
 returns : tie.Need-returns
 returns c = workahead-damaged _ _ (tested-damaged _ _ (c .before .before .test-run .ensures) (c .enum-told2 .given .1))
 
 returns-2 : tie.Need-returns-2
 returns-2 c = workahead-nobody _ _ (sound (c .before)) (c .if1 .taken)
 
-mul-ahead : tie.Need-mul-ahead
-mul-ahead c = let k = counting _ (sound (c .before .before)) _ (c .before .if1 .left) .place in omega arith
+mul-ahead-of : tie.Need-mul-ahead-of
+mul-ahead-of c = let l = few (c .before) in omega arith
 
-element-copy-out-ahead : tie.Need-element-copy-out-ahead
-element-copy-out-ahead c = counting _ (sound (c .before .before)) _ (c .before .if1 .left) .place
-
-mul-ahead-2 : tie.Need-mul-ahead-2
-mul-ahead-2 c = let k = counting _ (sound (c .before .before .before)) _ (c .before .before .if1 .left) .place in omega arith
-
-element-copy-out-ahead-2 : tie.Need-element-copy-out-ahead-2
-element-copy-out-ahead-2 c = counting _ (sound (c .before .before .before)) _ (c .before .before .if1 .left) .place
-
-ahead-requires : tie.Need-ahead-requires
-ahead-requires c κs = let k = counting _ (sound (c .before .before .before .before)) _ (c .before .before .before .if1 .left) in ((k .put, k .clock), k .rate)
+mul-ahead-of-2 : tie.Need-mul-ahead-of-2
+mul-ahead-of-2 c = let l = few (c .before .before) in omega arith
 
 returns-3 : tie.Need-returns-3
 returns-3 c =
-    let b : toZ w64 (ofZ w64 (c .ahead .result)) ≡ c .ahead .result = search needs in
-    workahead-time _ _ (sound (c .before .before .before .before .before)) _ (c .before .before .before .before .if1 .left) (b ∙ c .ahead .ensures)
+    let d = c .before .before .before .before in
+    workahead-for _ _ (sound (d .before)) _ (d .if1 .left) (c .ahead-of .ensures)
 
 pub workahead-spec : {M : Type 1} → statement M
 workahead-spec =
@@ -49,9 +41,9 @@ workahead-spec =
     (λ c. search needs)
     returns
     returns-2
-    mul-ahead
-    element-copy-out-ahead
-    mul-ahead-2
-    element-copy-out-ahead-2
-    ahead-requires
+    mul-ahead-of
+    (λ c. few (c .before))
+    mul-ahead-of-2
+    (λ c. few (c .before .before))
+    (λ c κs. search needs)
     returns-3)

@@ -1,0 +1,7 @@
+pub mod Truncated
+pub mod Aheads
+pub mod Orders
+pub mod Standings
+pub mod Seats
+pub mod Fits
+pub mod Calls

@@ -1,0 +1,4 @@
+pub mod Times
+pub mod Standing
+pub mod Decisions
+pub mod Answers
