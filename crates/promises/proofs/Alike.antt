@@ -34,7 +34,7 @@ use Rattle.run.specs.Answers.{moved, presentCheck}
 use Rattle.run.specs.Steps.{ticked, tickedAt, statesAfter, passed, drawn, drawnAt}
 use Rattle.run.proofs.Changed.{changed-below}
 use Rattle.run.proofs.Steps.{seat-below, read-below}
-use Rattle.spare.specs.declared.Spare.the-variants as spare
+use Rattle.standing.specs.declared.Spare.the-variants as spare
 use Rattle.spare.specs.Answers.{spared}
 use Rattle.promises.specs.Runs.{Sized}
 use Rattle.promises.proofs.Runs.{few}

@@ -23,9 +23,9 @@ use Rattle.run.specs.declared.Run.{Run}
 use Rattle.run.specs.Run.{playing, stateAt}
 use Rattle.run.specs.Sound.{SoundRun}
 use Rattle.run.specs.Decisions.{below?, some?, show?, good?, false?, true?, waiting?, state?, named?, nothing?, room?, put?, mayRead?, underway?, cycle?, sound?}
-use Rattle.spare.specs.declared.Spare.the-variants.{Time}
+use Rattle.standing.specs.declared.Spare.the-variants.{Time}
+use Rattle.standing.specs.Times.{slackTime}
 use Rattle.spare.specs.declared.Spared.{Spared}
-use Rattle.spare.specs.Times.{slackTime}
 use Rattle.spare.specs.Answers.{slackOf}
 use Rattle.spare.specs.Laws.{Steady, Lightly}
 use Rattle.spare.proofs.Calls.{slack-time}

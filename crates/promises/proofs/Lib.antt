@@ -22,6 +22,7 @@ pub mod LighterRuns
 pub mod SpareTime
 pub mod Answered
 pub mod Alike
+pub mod AlikeStandings
 pub mod Unseen
 pub mod OrderForC
 pub mod Embedded

@@ -50,8 +50,8 @@ use Rattle.run_test.specs.Answers.{testOutcome}
 use Rattle.scheduler.specs.declared.Choice.{Choice}
 use Rattle.scheduler.specs.declared.Choice.the-variants as choice
 use Rattle.scheduler.specs.Answers.{choiceOutcome}
-use Rattle.spare.specs.declared.Spare.the-variants as spare
-use Rattle.spare.specs.Answers.{spareOutcome}
+use Rattle.standing.specs.declared.Spare.the-variants as spare
+use Rattle.standing.specs.Answers.{spareOutcome}
 use Rattle.promises.specs.Refusals.{OneOf, KnownBy, Known, Numbered}
 
 -- ---- nineteen numbers

@@ -20,9 +20,9 @@ use Rattle.reason.specs.declared.Loaded.the-variants as loaded
 use Rattle.reason.specs.Answers.{reasonOutcome, loadedOutcome}
 use Rattle.scheduler.specs.declared.Choice.the-variants as choice
 use Rattle.scheduler.specs.Answers.{choiceOutcome}
-use Rattle.spare.specs.declared.Spare.{Spare}
-use Rattle.spare.specs.declared.Spare.the-variants as spare
-use Rattle.spare.specs.Answers.{spareOutcome}
+use Rattle.standing.specs.declared.Spare.{Spare}
+use Rattle.standing.specs.declared.Spare.the-variants as spare
+use Rattle.standing.specs.Answers.{spareOutcome}
 use Rattle.promises.specs.Refusals.{Says, Only}
 use Rattle.promises.specs.Order.{Grants, _when_else_, ShowThen, WriteOrder}
 use Rattle.promises.proofs.Says.{Among, says, grants-among, when-among, limits-among, show-among, file-among}
@@ -93,6 +93,10 @@ only =
       choose = λ r.
           (let l : List ℕ = 19 ∷ 13 ∷ 14 ∷ [] in
           says choice.Refused choiceOutcome (λ w. refl) l _ (when-among l tt (when-among l tt (when-among l tt (grants-among l))) (runs .choose r)));
+      «ahead_of» = λ x s.
+          (let l : List ℕ = 7 ∷ 19 ∷ [] in spare-says l _ (when-among l tt (when-among l tt (grants-among l)) (runs .«ahead_of» x s)));
+      stand = λ r. (let l : List ℕ = 19 ∷ [] in check-says l _ (when-among l tt (grants-among l) (runs .stand r)));
+      «slack_in» = λ s. (let l : List ℕ = 19 ∷ 9 ∷ [] in spare-says l _ (when-among l tt (when-among l tt (grants-among l)) (runs .«slack_in» s)));
       workahead = λ r i.
           (let l : List ℕ = 19 ∷ 9 ∷ [] in spare-says l _ (when-among l tt (when-among l tt (grants-among l)) (runs .workahead r i)));
       slack = λ r. (let l : List ℕ = 19 ∷ 9 ∷ [] in spare-says l _ (when-among l tt (when-among l tt (grants-among l)) (runs .slack r)));

@@ -6,6 +6,7 @@ use native.Mathlib.Decide.{decLt, ℕ-discrete}
 use native.Mathlib.Omega.{arith}
 use lib.IntN.{ℤ, pos}
 use lib.Signed.{_<ℤ_}
+use Rattle.show.specs.declared.Session.{Session}
 use Rattle.show.specs.declared.refusal.Refusal.the-variants as refusal
 use Rattle.show.specs.Checks.{unless, first}
 use Rattle.run.specs.declared.State.{State}
@@ -26,12 +27,18 @@ use Rattle.player.proofs.Laws.{take-answers}
 use Rattle.playback.specs.Answers.{spanCheck, passCheck, passOf, takeCheck, takeOf, busyCheck, finishCheck, finishOf, landedFor}
 use Rattle.scheduler.specs.declared.Chosen.{Chosen}
 use Rattle.scheduler.specs.Answers.{nextOf, arrived, chooseCheck, chooseOf, choiceOutcome}
-use Rattle.spare.specs.Times.{slackTime, aheadAt, running}
+use Rattle.standing.specs.declared.Standing.{Standing}
+use Rattle.standing.specs.Times.{slackTime, aheadAt, aheadOf}
+use Rattle.standing.specs.Standing.{slackIn}
+use Rattle.standing.specs.Decisions.{countable?, fit?}
+use Rattle.standing.specs.Answers.{rateCheck, countableCheck, aheadFor, fitCheck, someoneCheck, slackFor}
+use Rattle.standing.proofs.Laws.{stood-check}
+use Rattle.spare.specs.Times.{running}
 use Rattle.spare.specs.Answers.{workaheadOf, slackOf, someCheck, slackCheck, startCheck, startOf}
 use Rattle.theory.specs.Slack.{less?}
 use Rattle.promises.specs.Order.{Grants, _when_else_, Damaged, TooMuch, TooLong, ComesTo, PastLimit, OfRuns}
 use Rattle.promises.proofs.Tells.{Tests, clear, faulty, unless-tests, unless-fails, below-tests, most-tests, tells-last, tells-then}
-use Rattle.promises.proofs.Tells.{outcome-by, test-outcome, spared-outcome, chosen-outcome}
+use Rattle.promises.proofs.Tells.{outcome-by, test-outcome, timed-outcome, spared-outcome, chosen-outcome}
 
 -- ---- tests of a run
 
@@ -44,6 +51,12 @@ module _ (r : Run) where
 
   some-tests : Tests (playing r ≡ 0) refusal.NoSession (someCheck r)
   some-tests = unless-tests (decLt 0 (playing r)) (λ b h. let f : ⊥ = omega arith in f) (λ n. omega arith)
+
+rate-tests : (x : Session) → Tests (x .rate ≡ 0) (refusal.SessionLimits 0) (rateCheck x)
+rate-tests x = unless-tests (decLt 0 (x .rate)) (λ b h. let f : ⊥ = omega arith in f) (λ n. omega arith)
+
+someone-tests : (s : Standing) → Tests (s .playing ≡ 0) refusal.NoSession (someoneCheck s)
+someone-tests s = unless-tests (decLt 0 (s .playing)) (λ b h. let f : ⊥ = omega arith in f) (λ n. omega arith)
 
 span-tests : (d : ℕ) → Tests (TooLong d) refusal.TooLong (spanCheck d)
 span-tests d = most-tests d spanMost
@@ -112,7 +125,7 @@ module _ (r : Run) where
 -- ---- each call
 
 pub order-of-runs : OfRuns
-unfolding passOf passCheck takeOf takeCheck finishOf finishCheck player.takeCheck chooseOf chooseCheck workaheadOf slackOf startOf startCheck
+unfolding passOf passCheck takeOf takeCheck finishOf finishCheck player.takeCheck chooseOf chooseCheck aheadFor slackFor workaheadOf slackOf startOf startCheck
 order-of-runs =
     record {
       «test_run» = λ r. rw (test-outcome (sound? r)) (tells-last _ (sound-tests r) refl (λ e. refl));
@@ -136,6 +149,13 @@ order-of-runs =
       choose = λ r.
           rw (chosen-outcome (chooseCheck r) r)
           (tells-then _ _ (sound-tests r) refl (λ e. tells-last _ (free-tests (r .underway)) refl (λ e. next-tells r)));
+      «ahead_of» = λ x s.
+          rw (timed-outcome (first (rateCheck x) (countableCheck s)) (aheadOf x s))
+          (tells-then _ _ (rate-tests x) refl (λ e. tells-last _ (unless-fails (countable? s)) refl (λ e. refl)));
+      stand = λ r. rw (outcome-by (stood-check r)) (tells-last _ (sound-tests r) refl (λ e. refl));
+      «slack_in» = λ s.
+          rw (timed-outcome (first (fitCheck s) (someoneCheck s)) (slackIn s))
+          (tells-then _ _ (unless-fails (fit? s)) refl (λ e. tells-last _ (someone-tests s) refl (λ e. refl)));
       workahead = λ r i.
           rw (spared-outcome (first (soundCheck r) (presentCheck r i)) (aheadAt r i) r)
           (tells-then _ _ (sound-tests r) refl (λ e. tells-last _ (session-tests r i) refl (λ e. refl)));

@@ -30,6 +30,7 @@ use Rattle.verdict.proofs.Decisions.{accepted-refused}
 use Rattle.showfile_write.proofs.Trip.{written-check}
 use Rattle.run.specs.declared.Opened.{Opened}
 use Rattle.run.specs.Opening.{OpenIs, openedBy, noRun}
+use Rattle.standing.proofs.Laws.{stand-empty}
 use Rattle.promises.specs.Refusals.{Buffers, Empty}
 use Rattle.promises.proofs.Says.{same-verdict, same-answer, holds-refused, fails-refused, opened-refused}
 
@@ -119,4 +120,5 @@ empty =
       deciding = decide-empty;
       trying = tried-empty;
       opening = open-empty;
+      stand = stand-empty;
     }

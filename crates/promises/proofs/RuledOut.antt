@@ -52,7 +52,7 @@ use Rattle.promises.proofs.Refusals.{empty}
 use Rattle.promises.proofs.Reasons.{reasons}
 use Rattle.promises.proofs.Sayings.{one-short}
 use Rattle.promises.proofs.RuledOutOfTexts.{of-showfile, of-showfile-write, of-parse, of-text, of-report, of-explain, of-chikchiro}
-use Rattle.promises.proofs.RuledOutOfRuns.{of-run, of-run-test, of-player, of-playback, of-scheduler, of-spare}
+use Rattle.promises.proofs.RuledOutOfRuns.{of-run, of-run-test, of-player, of-playback, of-scheduler, of-standing, of-spare}
 
 of-show : OfShow
 unfolding showCheck firstBelow counts? drive? layout? session? between? decLt decLe ℕ-discrete Dec·and
@@ -200,6 +200,7 @@ ruled-out =
       player = of-player;
       playback = of-playback;
       scheduler = of-scheduler;
+      standing = of-standing;
       spare = of-spare;
       showfile = of-showfile;
       showfile-write = of-showfile-write;

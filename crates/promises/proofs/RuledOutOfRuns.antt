@@ -2,13 +2,14 @@
 use Prim.Native.Nat.{ℕ, _+_, _*_}
 use mathlib.Core.Path.{_≡_, refl, sym, ap, _∙_}
 use mathlib.Core.Bool.{true, false}
-use mathlib.Core.List.{List}
+use mathlib.Core.List.{List, [], _∷_}
 use mathlib.Core.Logic.{Dec·and}
 use native.Mathlib.Omega.{arith}
 use native.Mathlib.Decide.{decLt, decLe, ℕ-discrete}
 use lib.Dec.{ltb→lt}
 use lib.IntN.{pos, negsuc}
 use lib.ListN.{getD, replicate}
+use Rattle.show.specs.Limits.{noSession}
 use Rattle.show.specs.Refusals.{numberOf}
 use Rattle.show.specs.Outcomes.{checkOutcome}
 use Rattle.show.specs.Decisions.{between?, counts?, drive?, layout?, session?}
@@ -40,13 +41,18 @@ use Rattle.scheduler.specs.declared.Choice.the-variants as choice
 use Rattle.scheduler.specs.declared.Chosen.{Chosen}
 use Rattle.scheduler.specs.Answers.{arrived, arrivedPast, chooseOf}
 use Rattle.scheduler.proofs.Calls.{choose-next}
-use Rattle.spare.specs.declared.Spare.{Spare}
-use Rattle.spare.specs.declared.Spare.the-variants as spare
+use Rattle.standing.specs.declared.Spare.{Spare}
+use Rattle.standing.specs.declared.Spare.the-variants as spare
+use Rattle.standing.specs.Times.{named}
+use Rattle.standing.specs.Standing.{placeIn}
+use Rattle.standing.specs.Answers.{spareOutcome}
+use Rattle.standing.proofs.Orders.{ordered-few}
+use Rattle.standing.proofs.Calls.{ahead-time, stood-sound}
 use Rattle.spare.specs.declared.Spared.{Spared}
-use Rattle.spare.specs.Times.{named, running}
+use Rattle.spare.specs.Times.{running}
 use Rattle.spare.proofs.Calls.{start-begins, begin-granted}
-use Rattle.promises.specs.Numbers.{X, clip, showOf, eighth, clocked}
-use Rattle.promises.specs.RuledOutOfRuns.{eighthAt, level, crowded, worn, OfRun, OfRunTest, OfPlayer, OfPlayback, OfScheduler, OfSpare}
+use Rattle.promises.specs.Numbers.{X, clip, showOf, places, loaded, eighth, eighthBy, clocked}
+use Rattle.promises.specs.RuledOutOfRuns.{eighthAt, level, crowded, worn, OfRun, OfRunTest, OfPlayer, OfPlayback, OfScheduler, OfStanding, OfSpare}
 use Rattle.promises.proofs.Apart.{apart, other, outcomeNumber, checkNumber}
 use Rattle.promises.proofs.Table.{table}
 use Rattle.promises.proofs.Worked.{told, from-told, eighth-sound, clocked-first}
@@ -189,6 +195,27 @@ abbrev sparing : Spare → ℕ
 sparing (spare.Time (pos n)) = 2 * n
 sparing (spare.Time (negsuc n)) = 2 * n + 1
 sparing (spare.Refused w) = 0
+
+pub of-standing : OfStanding
+unfolding floorZ named
+of-standing =
+    record {
+      cushion-added = λ e.
+          apart sparing (ahead-time clip (record { put = 1; taken = 1; clock = 1 }) (omega arith) (negsuc 0) (omega arith, omega arith) refl ∙ e) tt;
+      no-rate-is-damage = λ e. apart outcomeNumber (sym (order .runs .«ahead_of» noSession (loaded 1) .present refl) ∙ ap spareOutcome e) tt;
+      damage-unseen = λ e.
+          (let h = stood-sound (eighthAt 0 0 underway.Nothing) _ refl e .cycle .turning (omega arith) .left .low in let f : ⊥ = omega arith in f);
+      order-unseen = λ e. apart sparing (sym (table .p8 .given) ∙ e) tt;
+      place-shared = λ z e.
+          apart outcomeNumber
+          (sym
+          (order .runs .«slack_in» (eighthBy (0 ∷ 1 ∷ 1 ∷ [])) .present
+          (λ f. let h = f .apart 1 2 (omega arith) (omega arith) refl in let g : ⊥ = omega arith in g))
+          ∙ ap spareOutcome e)
+          tt;
+      cleared-above = λ e.
+          other (ap (λ (l : List ℕ). placeIn l 2) (sym (ordered-few (places (1 ∷ 0 ∷ [])) 2 (replicate 16 9) (omega arith))) ∙ e) tt;
+    }
 
 pub of-spare : OfSpare
 unfolding floorZ leastTo slackBy before? rank less? same? ℕ-discrete sumTo costOf worstTime edges ceil listed decLe decLt named running

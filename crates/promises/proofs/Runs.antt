@@ -35,7 +35,7 @@ use Rattle.scheduler.specs.declared.Choice.the-variants.{Idle}
 use Rattle.scheduler.specs.Answers.{chooseOf}
 use Rattle.scheduler.proofs.Calls.{choose-damaged}
 use Rattle.scheduler.proofs.Laws.{choose-sound, choose-kept, choose-refused, choose-ahead, idle-run, idle-free}
-use Rattle.spare.specs.Times.{aheadAt, timeAt}
+use Rattle.standing.specs.Times.{aheadAt, timeAt}
 use Rattle.spare.specs.Answers.{startOf}
 use Rattle.spare.specs.Laws.{Started}
 use Rattle.spare.proofs.Calls.{workahead-damaged, slack-damaged, start-damaged}

@@ -18,6 +18,7 @@ use Rattle.theory.specs.Slack.{less?, spareBy, slackBy, Before, rank}
 use Rattle.theory.proofs.Integers.{not-less, ≤ℤ-antisymm}
 use Rattle.theory.proofs.Floor.{floor-floors}
 use Rattle.theory.proofs.Slack.{attained, slack-least, rank-below, rank-rises, rank-first, rank-apart}
+use Rattle.verdict.specs.Answers.{setOf}
 use Rattle.run.specs.declared.Underway.the-variants.{Nothing}
 use Rattle.run.specs.declared.Run.{Run}
 use Rattle.run.specs.Run.{playing, clipAt, seatAt, leftIn}
@@ -27,16 +28,22 @@ use Rattle.run.specs.Answers.{moved}
 use Rattle.run.specs.declared.Moved.{Moved}
 use Rattle.run.proofs.Answered.{moved-check}
 use Rattle.run.proofs.Orders.{names-below}
-use Rattle.spare.specs.declared.Spare.the-variants as spare
+use Rattle.standing.specs.declared.Spare.the-variants as spare
+use Rattle.standing.specs.declared.Standing.{Standing}
+use Rattle.standing.specs.Times.{aheadAt, timeAt, placeAt}
+use Rattle.standing.specs.Standing.{aheadIn, placeIn, spareIn}
+use Rattle.standing.specs.Answers.{stoodOf, slackFor}
+use Rattle.standing.proofs.Calls.{stood-standing}
+use Rattle.standing.proofs.Laws as told
+use Rattle.standing.proofs.Aheads.{counting}
+use Rattle.standing.proofs.Orders.{named-at}
 use Rattle.spare.specs.declared.Spared.{Spared}
-use Rattle.spare.specs.Times.{aheadAt, timeAt, placeAt, startOrder, running}
+use Rattle.spare.specs.Times.{startOrder, running}
 use Rattle.spare.specs.Answers.{workaheadOf, slackOf, startCheck, startOf}
-use Rattle.spare.proofs.Aheads.{counting}
-use Rattle.spare.proofs.Orders.{named-at}
-use Rattle.spare.proofs.Calls.{workahead-damaged, slack-damaged, start-names, start-begins, begin-granted}
+use Rattle.spare.proofs.Calls.{workahead-damaged, slack-damaged, slack-stood, start-names, start-begins, begin-granted}
 use Rattle.spare.proofs.Laws.{workahead-told, slack-told, starts, start-granted}
 use Rattle.promises.specs.Runs.{Sized}
-use Rattle.promises.specs.SpareTime.{leadAt, LeastOf, AtFirst, SpareTime}
+use Rattle.promises.specs.SpareTime.{leadOf, leadAt, LeastOf, AtFirst, SpareTime}
 
 -- ---- workahead
 
@@ -140,10 +147,19 @@ pub spare-time : SpareTime
 spare-time =
     record {
       workahead = floored;
+      «ahead_of» = λ x s z e.
+          (let t = told.ahead-told x s z e in
+          subst (Floors (leadOf x s) (x .rate)) (sym (t .1)) (floor-floors (leadOf x s) (x .rate) (t .0)));
       slack = λ r z e.
           (let t = slack-told r z e in
           subst (LeastOf (spareBy (placeAt r) (aheadAt r) (timeAt r) (playing r)) (playing r)) (sym (t .1))
           (slack-is (placeAt r) (aheadAt r) (timeAt r) (playing r) (t .0)));
+      «slack_in» = λ s z e.
+          (let t = told.slack-told s z e in
+          subst (LeastOf (spareIn s) (s .playing)) (sym (t .1))
+          (slack-is (placeIn (s .places)) (aheadIn (s .aheads)) (setOf (s .times)) (s .playing) (t .0)));
+      stand = λ r s.
+          ap slackFor (stood-standing r s (stoodOf r) refl) ∙ ap (λ (x : Spared). x .spare) (slack-stood r s _ refl);
       granted = λ r z e g. subst (λ (x : ℤ). pos 0 ≤ℤ x) (sym (slack-told r z e .1)) (not-less (starts r (checked r g) .enough));
       grants = start-within;
       names = start-each;

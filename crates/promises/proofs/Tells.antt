@@ -25,7 +25,8 @@ use Rattle.run.specs.Opening.{openedBy}
 use Rattle.run_test.specs.declared.Test.the-variants as test
 use Rattle.run_test.specs.Answers.{testOutcome}
 use Rattle.scheduler.specs.Answers.{nextOf, chosenBy, choiceOutcome}
-use Rattle.spare.specs.Answers.{spared, spareOutcome}
+use Rattle.standing.specs.Answers.{timed, spareOutcome}
+use Rattle.spare.specs.Answers.{spared}
 use Rattle.promises.specs.Order.{refusedWith, _when_else_}
 
 -- what an answer comes to by its check: the refusal, or what is granted
@@ -101,6 +102,10 @@ opened-outcome s c (verdict.Refused w) = refl
 pub test-outcome : {p : Type 0} (d : Dec p) → testOutcome (ite d test.Sound test.Damaged) ≡ after (unless d refusal.Damaged) (granted [])
 test-outcome (yes h) = refl
 test-outcome (no h) = refl
+
+pub timed-outcome : (k : Check) (z : ℤ) → spareOutcome (timed k z) ≡ after k (granted (z ∷ []))
+timed-outcome Within z = refl
+timed-outcome (Refused w) z = refl
 
 pub spared-outcome : (k : Check) (z : ℤ) (r : Run) → spareOutcome (spared k z r .spare) ≡ after k (granted (z ∷ []))
 spared-outcome Within z r = refl

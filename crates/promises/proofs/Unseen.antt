@@ -15,17 +15,21 @@ use Rattle.show.specs.declared.refusal.Check.{Check}
 use Rattle.show.specs.declared.refusal.Check.the-variants.{Within, Refused}
 use Rattle.show.specs.Checks.{unless, first}
 use Rattle.show.specs.Limits.{Alike}
+use Rattle.show.specs.Lists.{listed, padded}
 use Rattle.show.proofs.Checks.{unless-within, first-left, first-right}
+use Rattle.show.proofs.Lists.{listed-same}
 use Rattle.show.proofs.Shows.{alike-check}
 use Rattle.cost.specs.declared.Cost.{Cost}
 use Rattle.cost.specs.Bound.{worstTime}
 use Rattle.cost.specs.Costs.{costOf}
 use Rattle.cost.proofs.Costs.{alike-cost}
 use Rattle.cost.proofs.WorstTimes.{alike-worst}
-use Rattle.showfile_write.proofs.Unused.{written-same, buffer-same}
+use Rattle.showfile_write.proofs.Unused.{told-same, written-same, buffer-same}
 use Rattle.showfile_write.proofs.UnusedAgain.{reread-same}
 use Rattle.theory.specs.Slack.{less?, rank, slack}
+use Rattle.theory.specs.Shows.{loadOf}
 use Rattle.theory.proofs.Slack.{slack-same, rank-same}
+use Rattle.verdict.specs.Answers.{setOf, timesOf}
 use Rattle.verdict.specs.declared.Decision.{Decision}
 use Rattle.verdict.specs.declared.Verdict.{Verdict}
 use Rattle.verdict.specs.declared.Verdict.the-variants as verdict
@@ -50,13 +54,19 @@ use Rattle.player.specs.Answers.{earlyCheck, heldCheck}
 use Rattle.playback.specs.Answers.{spanCheck, passCheck, passOf, takeCheck, takeOf, busyCheck, finishCheck, landedFor, finishOf}
 use Rattle.scheduler.specs.declared.Choice.the-variants as choice
 use Rattle.scheduler.specs.Answers.{chosen, arrived, arrivedPast, nextOf, chooseCheck, chosenBy, chooseOf}
-use Rattle.spare.specs.Times.{aheadOf, aheadAt, timeAt, slackTime, placeAt, named, startOrder, running}
+use Rattle.standing.specs.declared.Standing.{Standing}
+use Rattle.standing.specs.Times.{aheadOf, aheadAt, timeAt, slackTime, placeAt, named}
+use Rattle.standing.specs.Standing.{aheadIn, aheadsOf, placesOf, standingOf}
+use Rattle.standing.specs.Answers.{stoodBy, stoodOf}
+use Rattle.standing.proofs.Orders.{named-length, named-same}
+use Rattle.standing.proofs.Standings.{surveyed}
+use Rattle.spare.specs.Times.{startOrder, running}
 use Rattle.spare.specs.Answers.{workaheadOf, someCheck, slackOf, onceCheck, slackCheck, startCheck, startOf}
-use Rattle.spare.proofs.Orders.{named-length, named-same}
 use Rattle.spare.proofs.Calls.{start-first}
 use Rattle.promises.specs.Runs.{Sized}
 use Rattle.promises.specs.Unseen.{AlikeRuns, SameMoved, SameChosen, SameSpared, SameOpened, Unseen}
 use Rattle.promises.proofs.Runs.{few}
+use Rattle.promises.proofs.AlikeStandings.{slack-in-same}
 use Rattle.promises.proofs.Alike.{same-runs, back, room-alike, put-alike, onward-alike, left-alike, still-sound, sound-same, first-same, moved-same}
 use Rattle.promises.proofs.Alike.{spared-same, sound-passed, set-alike, states-alike, cycle-alike, session-same, few-too, passed-alike, taken-alike}
 
@@ -294,6 +304,24 @@ module _ (r q : Run) (a : AlikeRuns r q) where
       slack-alike (sound-passed r (someCheck r) e)
       (unless-within (decLt 0 (playing r)) refusal.NoSession (first-right (soundCheck r) (someCheck r) e)))
 
+  standing-alike : SoundRun r → standingOf r ≡ standingOf q
+  standing-alike s =
+      let n = a .show .playing in
+      let times : List ℕ = timesOf (loadOf (r .show)) (setOf (r .counts)) in
+      let places : List ℕ = placesOf (aheadIn (aheadsOf r)) (playing r) in
+      let with : ℕ → Standing = λ k. record { playing = k; aheads = aheadsOf r; times = times; places = places } in
+      ap with n
+      ∙ surveyed q (aheadsOf r) times places
+      (ap (padded 16 (pos 0)) (listed-same (aheadAt r) (aheadAt q) (playing r) (ahead-alike r q a) ∙ ap (listed (aheadAt q)) n))
+      (ap (padded 16 0) (listed-same (timeAt r) (timeAt q) (playing r) (time-alike s) ∙ ap (listed (timeAt q)) n))
+      (ap (placesOf (aheadIn (aheadsOf r))) n)
+
+  stand-same : stoodOf r ≡ stoodOf q
+  unfolding stoodOf
+  stand-same =
+      told-same stoodBy (λ w c d. refl) (soundCheck r) (soundCheck q) _ _ (sound-same r q a)
+      (λ e. standing-alike (unless-within (sound? r) refusal.Damaged e))
+
   start-checks : startCheck r ≡ startCheck q
   unfolding startCheck slackCheck
   start-checks =
@@ -389,6 +417,8 @@ unseen =
       take = λ r q i k n m a. take-same r q n m a i k;
       choose = choose-same;
       finish = λ r q d n m a. finish-same r q n m a d;
+      stand = stand-same;
+      «slack_in» = slack-in-same;
       workahead = workahead-same;
       slack = spare-same;
       start = λ r q n m a. start-same r q a n m;

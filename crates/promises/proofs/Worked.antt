@@ -21,9 +21,13 @@ use Rattle.run.specs.Decisions.{below?, some?, show?, good?, false?, true?, wai
 use Rattle.run.specs.Steps.{changed, passed}
 use Rattle.run.specs.declared.Moved.{Moved}
 use Rattle.playback.proofs.Calls.{pass-granted}
-use Rattle.spare.specs.Times.{named, running}
+use Rattle.standing.specs.Times.{named}
+use Rattle.standing.specs.Standing.{Fit}
+use Rattle.standing.specs.Decisions.{fit?}
+use Rattle.standing.proofs.Calls.{slack-least}
+use Rattle.spare.specs.Times.{running}
 use Rattle.spare.proofs.Calls.{workahead-time, slack-time, start-begins, begin-granted}
-use Rattle.promises.specs.Numbers.{X, clip, faster, showOf, yes-with, eighth, uneven, clocked, P8, Uneven, P9, P10}
+use Rattle.promises.specs.Numbers.{X, clip, faster, showOf, yes-with, eighth, eighthBy, uneven, clocked, P8, Uneven, P9, P10}
 
 -- ---- a test that computes
 
@@ -42,6 +46,10 @@ eighth-sound = from-told (sound? eighth) tt
 
 -- ---- p8
 
+tabled-fit : Fit (eighthBy (0 ∷ 1 ∷ 2 ∷ []))
+unfolding told fit? below? decLe decLt ℕ-discrete Dec·and
+tabled-fit = from-told (fit? (eighthBy (0 ∷ 1 ∷ 2 ∷ []))) tt
+
 pub p8 : P8
 unfolding floorZ leastTo slackBy before? rank less? same? ℕ-discrete sumTo costOf worstTime edges ceil listed decLe decLt named running
 p8 =
@@ -52,6 +60,7 @@ p8 =
       third = sym (workahead-time eighth 2 eighth-sound (pos 110000) (omega arith) refl);
       slack = sym (slack-time eighth eighth-sound (pos 0) (omega arith) refl);
       table = refl;
+      given = sym (slack-least (eighthBy (0 ∷ 1 ∷ 2 ∷ [])) tabled-fit (negsuc 45999) (omega arith) refl);
       start = ap (λ (m : Moved). m .check) (sym begins);
       order = ap (λ (m : Moved). m .run .order) (sym begins);
     }

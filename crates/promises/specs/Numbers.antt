@@ -29,8 +29,10 @@ use Rattle.run.specs.declared.Underway.the-variants.{Nothing}
 use Rattle.run.specs.declared.Run.{Run}
 use Rattle.run.specs.Run.{noState}
 use Rattle.playback.specs.Answers.{passOf}
-use Rattle.spare.specs.declared.Spare.the-variants.{Time}
-use Rattle.spare.specs.Times.{aheadAt, timeAt}
+use Rattle.standing.specs.declared.Spare.the-variants.{Time}
+use Rattle.standing.specs.declared.Standing.{Standing}
+use Rattle.standing.specs.Times.{aheadAt, timeAt}
+use Rattle.standing.specs.Answers.{slackFor}
 use Rattle.spare.specs.Answers.{workaheadOf, slackOf, startOf}
 
 -- A = 51,200, N = 10
@@ -165,12 +167,23 @@ loaded P = record { put = P; taken = 0; clock = 0 }
 abbrev pub eighth : Run
 eighth = runOf (showOf X (replicate 3 clip)) (replicate 3 2) (loaded 79873 ∷ loaded 30721 ∷ loaded 56321 ∷ []) false
 
+-- its sessions at these places
+abbrev pub eighthBy : List ℕ → Standing
+eighthBy at =
+    record {
+      playing = 3;
+      aheads = pos 156000 ∷ pos 60000 ∷ pos 110000 ∷ replicate 13 (pos 0);
+      times = places (replicate 3 52000);
+      places = places at;
+    }
+
 pub record P8 : Type 0 where
   pub first : workaheadOf eighth 0 ≡ record { spare = Time (pos 156000); run = eighth }
   pub second : workaheadOf eighth 1 ≡ record { spare = Time (pos 60000); run = eighth }
   pub third : workaheadOf eighth 2 ≡ record { spare = Time (pos 110000); run = eighth }
   pub slack : slackOf eighth ≡ record { spare = Time (pos 0); run = eighth }
   pub table : slackBy (λ i. i) (aheadAt eighth) (timeAt eighth) 3 ≡ negsuc 45999
+  pub given : slackFor (eighthBy (0 ∷ 1 ∷ 2 ∷ [])) ≡ Time (negsuc 45999)
   pub start : startOf eighth .check ≡ Within
   pub order : startOf eighth .run .order ≡ places (1 ∷ 2 ∷ 0 ∷ [])
 

@@ -44,8 +44,12 @@ use Rattle.run_test.specs.Answers.{testOf, testOutcome}
 use Rattle.player.specs.Answers.{drawnOf}
 use Rattle.playback.specs.Answers.{passOf, takeOf, finishOf}
 use Rattle.scheduler.specs.Answers.{chooseOf, choiceOutcome}
-use Rattle.spare.specs.Times.{slackTime}
-use Rattle.spare.specs.Answers.{workaheadOf, slackOf, startOf, spareOutcome}
+use Rattle.standing.specs.declared.Standing.{Standing}
+use Rattle.standing.specs.Times.{slackTime}
+use Rattle.standing.specs.Standing.{Fit}
+use Rattle.standing.specs.Decisions.{Countable}
+use Rattle.standing.specs.Answers.{aheadFor, stoodOf, slackFor, spareOutcome}
+use Rattle.spare.specs.Answers.{workaheadOf, slackOf, startOf}
 
 -- ---- orders
 
@@ -172,6 +176,9 @@ pub record OfRuns : Type 0 where
       (r : Run) (d : ℕ) → checkOutcome (finishOf r d .check) tells
       19 when Damaged r else 11 when TooLong d else 17 when r .underway ≡ Nothing else Grants
   pub choose : (r : Run) → choiceOutcome (chooseOf r .choice) tells 19 when Damaged r else 13 when Reading r else 14 when PastLimit r else Grants
+  pub «ahead_of» : (x : Session) (s : State) → spareOutcome (aheadFor x s) tells 7 when x .rate ≡ 0 else 19 when (Countable s → ⊥) else Grants
+  pub stand : (r : Run) → checkOutcome (stoodOf r .check) tells 19 when Damaged r else Grants
+  pub «slack_in» : (s : Standing) → spareOutcome (slackFor s) tells 19 when (Fit s → ⊥) else 9 when s .playing ≡ 0 else Grants
   pub workahead : (r : Run) (i : ℕ) → spareOutcome (workaheadOf r i .spare) tells 19 when Damaged r else 9 when playing r ≤ i else Grants
   pub slack : (r : Run) → spareOutcome (slackOf r .spare) tells 19 when Damaged r else 9 when playing r ≡ 0 else Grants
   pub start :

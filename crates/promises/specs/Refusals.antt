@@ -43,8 +43,11 @@ use Rattle.player.specs.Answers.{drawnOf}
 use Rattle.playback.specs.Answers.{passOf, takeOf, finishOf}
 use Rattle.scheduler.specs.declared.Choice.the-variants as choice
 use Rattle.scheduler.specs.Answers.{chooseOf, choiceOutcome}
-use Rattle.spare.specs.declared.Spare.the-variants as spare
-use Rattle.spare.specs.Answers.{workaheadOf, slackOf, startOf, spareOutcome}
+use Rattle.standing.specs.declared.Spare.the-variants as spare
+use Rattle.standing.specs.declared.Standing.{Standing}
+use Rattle.standing.specs.Standing.{noStanding}
+use Rattle.standing.specs.Answers.{aheadFor, stoodOf, slackFor, spareOutcome}
+use Rattle.spare.specs.Answers.{workaheadOf, slackOf, startOf}
 
 -- one of these numbers
 abbrev pub OneOf : List ℕ → ℕ → Type 0
@@ -101,6 +104,9 @@ pub record Only : Type 0 where
   pub player : (s : State) (x : Session) (b : Bool) (n : ℕ) → Says Refused (drawnOf s x b n .check) (19 ∷ 12 ∷ 10 ∷ [])
   pub finish : (r : Run) (d : ℕ) → Says Refused (finishOf r d .check) (19 ∷ 11 ∷ 17 ∷ [])
   pub choose : (r : Run) → Says choice.Refused (chooseOf r .choice) (19 ∷ 13 ∷ 14 ∷ [])
+  pub «ahead_of» : (x : Session) (s : State) → Says spare.Refused (aheadFor x s) (7 ∷ 19 ∷ [])
+  pub stand : (r : Run) → Says Refused (stoodOf r .check) (19 ∷ [])
+  pub «slack_in» : (s : Standing) → Says spare.Refused (slackFor s) (19 ∷ 9 ∷ [])
   pub workahead : (r : Run) (i : ℕ) → Says spare.Refused (workaheadOf r i .spare) (19 ∷ 9 ∷ [])
   pub slack : (r : Run) → Says spare.Refused (slackOf r .spare) (19 ∷ 9 ∷ [])
   pub start : (r : Run) → Says Refused (startOf r .check) (19 ∷ 18 ∷ 13 ∷ 9 ∷ 15 ∷ [])
@@ -129,3 +135,4 @@ pub record Empty : Type 0 where
   pub deciding : (s : Show) (d : Decision) → DecisionIs s d → (w : Refusal) → d .verdict ≡ verdict.Refused w → d ≡ refusedFor w
   pub trying : (s : Show) (m : List ℕ) (t : Trial) → TrialIs s m t → (w : Refusal) → t .answer ≡ answer.Refused w → t ≡ untriedFor w
   pub opening : (s : Show) (o : Opened) → OpenIs s o → (w : Refusal) → o .check ≡ Refused w → o ≡ record { check = Refused w; run = noRun }
+  pub stand : (r : Run) (w : Refusal) → stoodOf r .check ≡ Refused w → stoodOf r ≡ record { check = Refused w; standing = noStanding }

@@ -27,7 +27,7 @@ use Rattle.reason.specs.declared.Loaded.the-variants.{Tenths}
 use Rattle.reason.specs.Answers.{ReasonIs, loadedOf}
 use Rattle.promises.specs.Numbers.{box, X, Z, far, buffered, clip, slower, showOf, places}
 use Rattle.promises.specs.RuledOutOfTexts.{OfShowfile, OfShowfileWrite, OfParse, OfText, OfReport, OfExplain, OfChikchiro}
-use Rattle.promises.specs.RuledOutOfRuns.{OfRun, OfRunTest, OfPlayer, OfPlayback, OfScheduler, OfSpare}
+use Rattle.promises.specs.RuledOutOfRuns.{OfRun, OfRunTest, OfPlayer, OfPlayback, OfScheduler, OfStanding, OfSpare}
 
 -- p2's show, with a buffer a byte short
 abbrev pub short : Show
@@ -117,6 +117,7 @@ pub record RuledOut : Type 0 where
   pub player : OfPlayer
   pub playback : OfPlayback
   pub scheduler : OfScheduler
+  pub standing : OfStanding
   pub spare : OfSpare
   pub showfile : OfShowfile
   pub showfile-write : OfShowfileWrite

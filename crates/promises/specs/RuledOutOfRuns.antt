@@ -3,12 +3,12 @@ use Prim.Native.Nat.{ℕ, _≤_}
 use mathlib.Core.Path.{_≡_}
 use mathlib.Core.Bool.{true, false}
 use mathlib.Core.List.{[], _∷_}
-use lib.IntN.{pos}
+use lib.IntN.{ℤ, pos}
 use lib.ListN.{replicate}
 use Rattle.show.specs.declared.refusal.Refusal.the-variants as refusal
 use Rattle.show.specs.declared.refusal.Check.{Check}
 use Rattle.show.specs.declared.refusal.Check.the-variants.{Within, Refused}
-use Rattle.show.specs.Limits.{Tells}
+use Rattle.show.specs.Limits.{Tells, noSession}
 use Rattle.run.specs.declared.State.{State}
 use Rattle.run.specs.declared.Underway.{Underway}
 use Rattle.run.specs.declared.Underway.the-variants as underway
@@ -24,9 +24,12 @@ use Rattle.player.specs.Answers.{drawnOf}
 use Rattle.playback.specs.Answers.{passOf, takeOf, finishOf}
 use Rattle.scheduler.specs.declared.Choice.the-variants as choice
 use Rattle.scheduler.specs.Answers.{chooseOf}
-use Rattle.spare.specs.declared.Spare.the-variants.{Time}
+use Rattle.standing.specs.declared.Spare.the-variants as spare
+use Rattle.standing.specs.declared.Spare.the-variants.{Time}
+use Rattle.standing.specs.Standing.{placeIn, orderedBy}
+use Rattle.standing.specs.Answers.{aheadFor, stoodOf, slackFor}
 use Rattle.spare.specs.Answers.{workaheadOf, slackOf, startOf}
-use Rattle.promises.specs.Numbers.{X, buffered, clip, showOf, places, runOf, loaded, eighth, uneven, clocked}
+use Rattle.promises.specs.Numbers.{X, buffered, clip, showOf, places, runOf, loaded, eighth, eighthBy, uneven, clocked}
 
 -- one byte held
 abbrev pub held : State
@@ -97,6 +100,18 @@ pub record OfScheduler : Type 0 where
   pub advanced-at-the-limit : chooseOf worn .run .underway ≡ underway.Read 0 → ⊥
   -- a session that is to be read is more than a round ahead, as if it were Idle
   pub ahead-whenever-asked : ((r : Run) (i : ℕ) → chooseOf r .choice ≡ choice.Read i → Ahead r i) → ⊥
+
+pub record OfStanding : Type 0 where
+  -- `ahead_of`, p9: with the cushion added; of a rate of 0, damage
+  pub cushion-added : aheadFor clip (record { put = 1; taken = 1; clock = 1 }) ≡ Time (pos 3) → ⊥
+  pub no-rate-is-damage : aheadFor noSession held ≡ spare.Refused refusal.Damaged → ⊥
+  -- `stand`: granted to a run that has nothing left of its count
+  pub damage-unseen : stoodOf (eighthAt 0 0 underway.Nothing) .check ≡ Within → ⊥
+  -- `slack_in`, p8: in another order as much; a time where two share a place
+  pub order-unseen : slackFor (eighthBy (0 ∷ 1 ∷ 2 ∷ [])) ≡ Time (pos 0) → ⊥
+  pub place-shared : (z : ℤ) → slackFor (eighthBy (0 ∷ 1 ∷ 1 ∷ [])) ≡ Time z → ⊥
+  -- `ordered`: the places above the count are cleared
+  pub cleared-above : placeIn (orderedBy (places (1 ∷ 0 ∷ [])) 2 (replicate 16 9)) 2 ≡ 0 → ⊥
 
 pub record OfSpare : Type 0 where
   -- `workahead`, p9: with the cushion added

@@ -7,6 +7,7 @@ use Rattle.show.specs.declared.Show.{Show}
 use Rattle.show.specs.Limits.{Alike}
 use Rattle.show.specs.Checks.{showCheck}
 use Rattle.cost.specs.WorstTimes.{worstOf}
+use Rattle.verdict.specs.Answers.{setOf}
 use Rattle.showfile_write.specs.Answers.{writtenOf, bufferOf}
 use Rattle.showfile_write.specs.Trips.{rereadOf}
 use Rattle.run.specs.declared.Run.{Run}
@@ -18,6 +19,9 @@ use Rattle.run.specs.Opening.{OpenIs}
 use Rattle.playback.specs.Answers.{passOf, takeOf, finishOf}
 use Rattle.scheduler.specs.declared.Chosen.{Chosen}
 use Rattle.scheduler.specs.Answers.{chooseOf}
+use Rattle.standing.specs.declared.Standing.{Standing}
+use Rattle.standing.specs.Standing.{aheadIn, placeIn}
+use Rattle.standing.specs.Answers.{stoodOf, slackFor}
 use Rattle.spare.specs.declared.Spared.{Spared}
 use Rattle.spare.specs.Answers.{workaheadOf, slackOf, startOf}
 use Rattle.promises.specs.Runs.{Sized}
@@ -32,6 +36,13 @@ pub record AlikeRuns (r q : Run) : Type 0 where
   pub left : r .left ≡ q .left
   pub underway : r .underway ≡ q .underway
   pub started : r .started ≡ q .started
+
+-- Two standings that differ in unused places alone.
+pub record AlikeStandings (s t : Standing) : Type 0 where
+  pub playing : s .playing ≡ t .playing
+  pub aheads : (i : ℕ) → i < s .playing → aheadIn (s .aheads) i ≡ aheadIn (t .aheads) i
+  pub times : (i : ℕ) → i < s .playing → setOf (s .times) i ≡ setOf (t .times) i
+  pub places : (i : ℕ) → i < s .playing → placeIn (s .places) i ≡ placeIn (t .places) i
 
 -- Two answers that are the same, with runs that again differ in unused places alone.
 abbrev pub SameMoved : Moved → Moved → Type 0
@@ -62,6 +73,8 @@ pub record Unseen : Type 0 where
   pub take : (r q : Run) (i n : ℕ) → Sized r → Sized q → AlikeRuns r q → SameMoved (takeOf r i n) (takeOf q i n)
   pub choose : (r q : Run) → AlikeRuns r q → SameChosen (chooseOf r) (chooseOf q)
   pub finish : (r q : Run) (d : ℕ) → Sized r → Sized q → AlikeRuns r q → SameMoved (finishOf r d) (finishOf q d)
+  pub stand : (r q : Run) → AlikeRuns r q → stoodOf r ≡ stoodOf q
+  pub «slack_in» : (s t : Standing) → AlikeStandings s t → slackFor s ≡ slackFor t
   pub workahead : (r q : Run) (i : ℕ) → AlikeRuns r q → SameSpared (workaheadOf r i) (workaheadOf q i)
   pub slack : (r q : Run) → AlikeRuns r q → SameSpared (slackOf r) (slackOf q)
   pub start : (r q : Run) → Sized r → Sized q → AlikeRuns r q → SameMoved (startOf r) (startOf q)

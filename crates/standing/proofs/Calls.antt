@@ -21,7 +21,7 @@ use Rattle.standing.specs.declared.Stood.{Stood}
 use Rattle.standing.specs.Times.{aheadOf, aheadAt, slackTime}
 use Rattle.standing.specs.Standing.{noStanding, standingOf, Fit, slackIn}
 use Rattle.standing.specs.Decisions.{Countable, countable?, fit?}
-use Rattle.standing.specs.Answers.{timed, rateCheck, stateCheck, aheadFor, stoodBy, stoodOf, fitCheck, someoneCheck, slackFor}
+use Rattle.standing.specs.Answers.{timed, rateCheck, countableCheck, aheadFor, stoodBy, stoodOf, fitCheck, someoneCheck, slackFor}
 use Rattle.standing.proofs.Aheads.{counting}
 use Rattle.standing.proofs.Standings.{standing-fit, slack-in}
 
@@ -44,7 +44,7 @@ module _ (x : Session) (s : State) where
   unfolding aheadFor
   ahead-rateless e =
       timed-refused _ _ (refusal.SessionLimits 0)
-      (first-refused _ (stateCheck s) (unless-broken (decLt 0 (x .rate)) (refusal.SessionLimits 0) (λ l. let f : ⊥ = omega arith in f)))
+      (first-refused _ (countableCheck s) (unless-broken (decLt 0 (x .rate)) (refusal.SessionLimits 0) (λ l. let f : ⊥ = omega arith in f)))
 
   module _ (l : 0 < x .rate) where
     rated : rateCheck x ≡ Within

@@ -5,3 +5,4 @@ pub mod Standings
 pub mod Seats
 pub mod Fits
 pub mod Calls
+pub mod Laws

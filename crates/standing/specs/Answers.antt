@@ -29,12 +29,12 @@ abbrev pub rateCheck : Session → Check
 rateCheck x = unless (decLt 0 (x .rate)) (refusal.SessionLimits 0)
 
 -- 19: a state that no run has
-abbrev pub stateCheck : State → Check
-stateCheck s = unless (countable? s) refusal.Damaged
+abbrev pub countableCheck : State → Check
+countableCheck s = unless (countable? s) refusal.Damaged
 
 -- 7, 19
 unfoldable pub aheadFor : Session → State → Spare
-aheadFor x s = timed (first (rateCheck x) (stateCheck s)) (aheadOf x s)
+aheadFor x s = timed (first (rateCheck x) (countableCheck s)) (aheadOf x s)
 
 -- Refused: no standing.
 abbrev pub stoodBy : Check → Standing → Stood

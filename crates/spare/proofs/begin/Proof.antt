@@ -29,7 +29,9 @@ told c = c .before .spare .given .0 .0
 told-fits : (c : tie.After-known-told) → toZ w64 (ofZ w64 (told c)) ≡ told c
 told-fits c = search needs
 
-slack-is : (c : tie.After-known-told) → (0 < playing (c .before .before .before .before .args .run)) × (told c ≡ slackTime (c .before .before .before .before .args .run))
+slack-is : (c : tie.After-known-told) →
+    (0 < playing (c .before .before .before .before .args .run))
+    × (told c ≡ slackTime (c .before .before .before .before .args .run))
 slack-is c =
     let s = c .before .before .before .before in
     run-told _ (s .pre .0) (told c) (ap slackFor (sym (s .pre .1)) ∙ sym (c .before .before .before .slack-in .ensures) ∙ c .before .spare .given .1)

@@ -19,7 +19,7 @@ returns : tie.Need-returns
 returns c = workahead-damaged _ _ (tested-damaged _ _ (c .before .before .test-run .ensures) (c .enum-told2 .given .1))
 
 returns-2 : tie.Need-returns-2
-returns-2 c = workahead-nobody _ _ (sound (c .before)) (c .if1 .taken)
+returns-2 c = workahead-nobody _ _ (sound (c .before)) (let l = c .if1 .taken in omega arith)
 
 mul-ahead-of : tie.Need-mul-ahead-of
 mul-ahead-of c = let l = few (c .before) in omega arith

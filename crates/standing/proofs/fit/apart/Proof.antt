@@ -42,7 +42,9 @@ returns : tie.Need-returns Inv-loop μ-loop
 returns c = λ a.
     (let s = c .before .before .before in
     let few = s .before .pre .0 in
-    let e = apart-found (s .before .args .t1) (replicate 16 0) (s .before .args .playing) (rw (length-replicate {A = ℕ} 16 0) few) (s .before .pre .1) a _ (c .before .loop-test .taken) in
+    let l = s .before .args .t1 in
+    let all = apart-found l (replicate 16 0) (s .before .args .playing) (rw (length-replicate {A = ℕ} 16 0) few) (s .before .pre .1) a in
+    let e = all _ (c .before .loop-test .taken) in
     c .if1 .taken (ap (λ (o : List ℕ). getD o (placeIn (s .before .args .t1) (c .before .before .loop .i)) 0) (seated s) ∙ e))
 
 add-i : tie.Need-add-i Inv-loop μ-loop

@@ -11,7 +11,9 @@ returns : tie.Need-returns
 returns c = λ s. (let h = s .time in let g = c .if1 .taken in let f : ⊥ = omega arith in f)
 
 returns-2 : tie.Need-returns-2
-returns-2 c = λ s. tells-no _ (c .before .near .result) (not-true _ (c .if2 .taken)) (c .before .near .ensures) (rw (toZ-ofZ (c .before .before .before .fits .ahead)) (s .ahead))
+returns-2 c = λ s.
+    tells-no _ (c .before .near .result) (not-true _ (c .if2 .taken)) (c .before .near .ensures)
+    (rw (toZ-ofZ (c .before .before .before .fits .ahead)) (s .ahead))
 
 returns-3 : tie.Need-returns-3
 returns-3 c = λ s. (let h = s .place in let g = c .if3 .taken in let f : ⊥ = omega arith in f)

@@ -85,9 +85,11 @@ next-ahead c = toZ-ofZ (record { sfits = c .net-arg2 .given })
 
 net-requires-2 : tie.Need-net-requires-2 Inv-loop μ-loop
 net-requires-2 c κs =
-    let f = c .before .before .before .before .before .before .before .before .before .pre .0 in
+    let d = c .before .before .before .before .before .before .before in
+    let f = d .before .before .pre .0 in
     let l = c .before .before .loop-test .taken in
-    (rw (next-ahead c) (f .aheads _ (seats (c .before .before .before .before .before .before .before) .inside _ l)), next-small (c .before .before .before .before .before .before .before .before .before .args .t1) (c .before .before .before .before .before .before .before .ordered .result) (seats (c .before .before .before .before .before .before .before)) f _ _ l (c .before .before .before .loop .inv .times))
+    let few = next-small (d .before .before .args .t1) (d .ordered .result) (seats d) f _ _ l (c .before .before .before .loop .inv .times) in
+    (rw (next-ahead c) (f .aheads _ (seats d .inside _ l)), omega arith)
 
 spare-is : (c : tie.After-net2 Inv-loop μ-loop) → toZ w64 (ofZ w64 (c .net2 .result)) ≡ aheadIn (c .before .before .before .before .before .before .before .before .before .before .args .t1 .aheads) (seatIn (c .before .before .before .before .before .before .before .before .ordered .result) (c .before .before .before .before .loop .k)) -ℤ pos (c .before .before .before .before .loop .sum + setOf (c .before .before .before .before .before .before .before .before .before .before .args .t1 .times) (seatIn (c .before .before .before .before .before .before .before .before .ordered .result) (c .before .before .before .before .loop .k)))
 spare-is c =
