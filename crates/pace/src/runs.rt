@@ -7,7 +7,7 @@ use crate::sums::three;
 use crate::sums::two;
 use run::Run;
 use scheduler::Choice;
-use spare::Spare;
+use standing::Spare;
 use std::num::wrapping_sub_u64;
 
 // How long a read takes, and how long passes before the next.
