@@ -31,7 +31,7 @@ use Rattle.standing.specs.declared.Standing.{Standing}
 use Rattle.standing.specs.Times.{slackTime, aheadAt, aheadOf}
 use Rattle.standing.specs.Standing.{slackIn}
 use Rattle.standing.specs.Decisions.{countable?, fit?}
-use Rattle.standing.specs.Answers.{rateCheck, countableCheck, aheadFor, fitCheck, someoneCheck, slackFor}
+use Rattle.standing.specs.Answers.{playsCheck, countableCheck, aheadFor, fitCheck, someoneCheck, slackFor}
 use Rattle.standing.proofs.Laws.{stood-check}
 use Rattle.spare.specs.Times.{running}
 use Rattle.spare.specs.Answers.{workaheadOf, slackOf, someCheck, slackCheck, startCheck, startOf}
@@ -52,7 +52,7 @@ module _ (r : Run) where
   some-tests : Tests (playing r ≡ 0) refusal.NoSession (someCheck r)
   some-tests = unless-tests (decLt 0 (playing r)) (λ b h. let f : ⊥ = omega arith in f) (λ n. omega arith)
 
-rate-tests : (x : Session) → Tests (x .rate ≡ 0) (refusal.SessionLimits 0) (rateCheck x)
+rate-tests : (x : Session) → Tests (x .rate ≡ 0) (refusal.SessionLimits 0) (playsCheck x)
 rate-tests x = unless-tests (decLt 0 (x .rate)) (λ b h. let f : ⊥ = omega arith in f) (λ n. omega arith)
 
 someone-tests : (s : Standing) → Tests (s .playing ≡ 0) refusal.NoSession (someoneCheck s)
@@ -150,7 +150,7 @@ order-of-runs =
           rw (chosen-outcome (chooseCheck r) r)
           (tells-then _ _ (sound-tests r) refl (λ e. tells-last _ (free-tests (r .underway)) refl (λ e. next-tells r)));
       «ahead_of» = λ x s.
-          rw (timed-outcome (first (rateCheck x) (countableCheck s)) (aheadOf x s))
+          rw (timed-outcome (first (playsCheck x) (countableCheck s)) (aheadOf x s))
           (tells-then _ _ (rate-tests x) refl (λ e. tells-last _ (unless-fails (countable? s)) refl (λ e. refl)));
       stand = λ r. rw (outcome-by (stood-check r)) (tells-last _ (sound-tests r) refl (λ e. refl));
       «slack_in» = λ s.

@@ -21,7 +21,7 @@ use Rattle.standing.specs.declared.Stood.{Stood}
 use Rattle.standing.specs.Times.{aheadOf, aheadAt, slackTime}
 use Rattle.standing.specs.Standing.{noStanding, standingOf, Fit, slackIn}
 use Rattle.standing.specs.Decisions.{Countable, countable?, fit?}
-use Rattle.standing.specs.Answers.{timed, rateCheck, countableCheck, aheadFor, stoodBy, stoodOf, fitCheck, someoneCheck, slackFor}
+use Rattle.standing.specs.Answers.{timed, playsCheck, countableCheck, aheadFor, stoodBy, stoodOf, fitCheck, someoneCheck, slackFor}
 use Rattle.standing.proofs.Aheads.{counting}
 use Rattle.standing.proofs.Standings.{standing-fit, slack-in}
 
@@ -47,17 +47,17 @@ module _ (x : Session) (s : State) where
       (first-refused _ (countableCheck s) (unless-broken (decLt 0 (x .rate)) (refusal.SessionLimits 0) (λ l. let f : ⊥ = omega arith in f)))
 
   module _ (l : 0 < x .rate) where
-    rated : rateCheck x ≡ Within
+    rated : playsCheck x ≡ Within
     rated = unless-kept (decLt 0 (x .rate)) (refusal.SessionLimits 0) l
 
     pub ahead-uncountable : (Countable s → ⊥) → spare.Refused refusal.Damaged ≡ aheadFor x s
     unfolding aheadFor
     ahead-uncountable n =
-        timed-refused _ _ refusal.Damaged (first-within (rateCheck x) _ rated ∙ unless-broken (countable? s) refusal.Damaged n)
+        timed-refused _ _ refusal.Damaged (first-within (playsCheck x) _ rated ∙ unless-broken (countable? s) refusal.Damaged n)
 
     pub ahead-time : (z : ℤ) → Countable s → z ≡ aheadOf x s → spare.Time z ≡ aheadFor x s
     unfolding aheadFor
-    ahead-time z c e = timed-granted _ _ z (first-within (rateCheck x) _ rated ∙ unless-kept (countable? s) refusal.Damaged c) e
+    ahead-time z c e = timed-granted _ _ z (first-within (playsCheck x) _ rated ∙ unless-kept (countable? s) refusal.Damaged c) e
 
 -- ---- a standing
 

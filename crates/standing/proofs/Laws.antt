@@ -19,7 +19,7 @@ use Rattle.standing.specs.declared.Standing.{Standing}
 use Rattle.standing.specs.declared.Stood.{Stood}
 use Rattle.standing.specs.Times.{aheadOf}
 use Rattle.standing.specs.Standing.{noStanding, standingOf, slackIn}
-use Rattle.standing.specs.Answers.{timed, rateCheck, countableCheck, aheadFor, stoodBy, stoodOf, fitCheck, someoneCheck, slackFor}
+use Rattle.standing.specs.Answers.{timed, playsCheck, countableCheck, aheadFor, stoodBy, stoodOf, fitCheck, someoneCheck, slackFor}
 
 time-told : (k : Check) (z y : ℤ) → timed k z ≡ spare.Time y → (k ≡ Within) × (y ≡ z)
 time-told Within z y e = (refl, (let f : z ≡ y = cc in sym f))
@@ -28,8 +28,8 @@ time-told (Refused w) z y e = absurd (let z : _≡_ {A = ℕ} 0 1 = cc in let f 
 pub ahead-told : (x : Session) (s : State) (y : ℤ) → aheadFor x s ≡ spare.Time y → (0 < x .rate) × (y ≡ aheadOf x s)
 unfolding aheadFor
 ahead-told x s y e =
-    let t = time-told (first (rateCheck x) (countableCheck s)) (aheadOf x s) y e in
-    (unless-within (decLt 0 (x .rate)) (refusal.SessionLimits 0) (first-left (rateCheck x) (countableCheck s) (t .0)), t .1)
+    let t = time-told (first (playsCheck x) (countableCheck s)) (aheadOf x s) y e in
+    (unless-within (decLt 0 (x .rate)) (refusal.SessionLimits 0) (first-left (playsCheck x) (countableCheck s) (t .0)), t .1)
 
 pub slack-told : (s : Standing) (y : ℤ) → slackFor s ≡ spare.Time y → (0 < s .playing) × (y ≡ slackIn s)
 unfolding slackFor

@@ -25,8 +25,8 @@ timed Within z = spare.Time z
 timed (Refused w) z = spare.Refused w
 
 -- 7: a rate of 0
-abbrev pub rateCheck : Session → Check
-rateCheck x = unless (decLt 0 (x .rate)) (refusal.SessionLimits 0)
+abbrev pub playsCheck : Session → Check
+playsCheck x = unless (decLt 0 (x .rate)) (refusal.SessionLimits 0)
 
 -- 19: a state that no run has
 abbrev pub countableCheck : State → Check
@@ -34,7 +34,7 @@ countableCheck s = unless (countable? s) refusal.Damaged
 
 -- 7, 19
 unfoldable pub aheadFor : Session → State → Spare
-aheadFor x s = timed (first (rateCheck x) (countableCheck s)) (aheadOf x s)
+aheadFor x s = timed (first (playsCheck x) (countableCheck s)) (aheadOf x s)
 
 -- Refused: no standing.
 abbrev pub stoodBy : Check → Standing → Stood
