@@ -24,49 +24,35 @@ use Rattle.show.specs.declared.refusal.Refusal.the-variants.{
   Damaged,
 }
 
+-- a refusal of no one place
+abbrev pub alone : ℕ → Told
+alone n = record { number = n; place = 0 }
+
+-- What a refusal is told by: a clause for each, with its number and its place.
+abbrev pub toldOf : Refusal → Told
+toldOf FileLength = alone 1
+toldOf Counts = alone 2
+toldOf Distances = alone 3
+toldOf NoteLength = alone 4
+toldOf DriveLimits = alone 5
+toldOf (LayoutLimits i) = record { number = 6; place = i }
+toldOf (SessionLimits i) = record { number = 7; place = i }
+toldOf NoSet = alone 8
+toldOf NoSession = alone 9
+toldOf TooMuch = alone 10
+toldOf TooLong = alone 11
+toldOf NotStarted = alone 12
+toldOf ReadUnderway = alone 13
+toldOf PutLimit = alone 14
+toldOf NegativeSlack = alone 15
+toldOf BufferShort = alone 16
+toldOf NothingUnderway = alone 17
+toldOf AlreadyStarted = alone 18
+toldOf Damaged = alone 19
+
 abbrev pub numberOf : Refusal → ℕ
-numberOf FileLength = 1
-numberOf Counts = 2
-numberOf Distances = 3
-numberOf NoteLength = 4
-numberOf DriveLimits = 5
-numberOf (LayoutLimits i) = 6
-numberOf (SessionLimits i) = 7
-numberOf NoSet = 8
-numberOf NoSession = 9
-numberOf TooMuch = 10
-numberOf TooLong = 11
-numberOf NotStarted = 12
-numberOf ReadUnderway = 13
-numberOf PutLimit = 14
-numberOf NegativeSlack = 15
-numberOf BufferShort = 16
-numberOf NothingUnderway = 17
-numberOf AlreadyStarted = 18
-numberOf Damaged = 19
+numberOf w = toldOf w .number
 
 -- 0 but for 6 and 7
 abbrev pub placeOf : Refusal → ℕ
-placeOf FileLength = 0
-placeOf Counts = 0
-placeOf Distances = 0
-placeOf NoteLength = 0
-placeOf DriveLimits = 0
-placeOf (LayoutLimits i) = i
-placeOf (SessionLimits i) = i
-placeOf NoSet = 0
-placeOf NoSession = 0
-placeOf TooMuch = 0
-placeOf TooLong = 0
-placeOf NotStarted = 0
-placeOf ReadUnderway = 0
-placeOf PutLimit = 0
-placeOf NegativeSlack = 0
-placeOf BufferShort = 0
-placeOf NothingUnderway = 0
-placeOf AlreadyStarted = 0
-placeOf Damaged = 0
-
--- what a refusal is told by
-abbrev pub toldOf : Refusal → Told
-toldOf w = record { number = numberOf w; place = placeOf w }
+placeOf w = toldOf w .place

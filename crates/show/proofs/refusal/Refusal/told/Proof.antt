@@ -1,70 +1,15 @@
 -- `told` answers number and place: each arm knows its case. Assumes nothing.
-use mathlib.Core.Path.{_≡_, sym, ap}
+use mathlib.Core.Path.{_≡_, sym, ap, _∙_}
 use borrow.Author.Needs.{needs}
 use Rattle.show.specs.declared.refusal.Refusal.{Refusal}
+use Rattle.show.specs.declared.refusal.Told.{Told}
 use Rattle.show.specs.Refusals.{toldOf}
 use Rattle.show.proofs.refusal.Refusal.told.Statement.{statement}
 use Rattle.show.proofs.refusal.Refusal.told.Tie as tie
 
-told : {w v : Refusal} → w ≡ v → toldOf v ≡ toldOf w
-told e = ap toldOf (sym e)
-
-returns : tie.Need-returns
-returns c = told (c .enum-told .given .1)
-
-returns-2 : tie.Need-returns-2
-returns-2 c = told (c .enum-told2 .given .1)
-
-returns-3 : tie.Need-returns-3
-returns-3 c = told (c .enum-told3 .given .1)
-
-returns-4 : tie.Need-returns-4
-returns-4 c = told (c .enum-told4 .given .1)
-
-returns-5 : tie.Need-returns-5
-returns-5 c = told (c .enum-told5 .given .1)
-
-returns-6 : tie.Need-returns-6
-returns-6 c = told (c .before .self .given .1)
-
-returns-7 : tie.Need-returns-7
-returns-7 c = told (c .before .self2 .given .1)
-
-returns-8 : tie.Need-returns-8
-returns-8 c = told (c .enum-told6 .given .1)
-
-returns-9 : tie.Need-returns-9
-returns-9 c = told (c .enum-told7 .given .1)
-
-returns-10 : tie.Need-returns-10
-returns-10 c = told (c .enum-told8 .given .1)
-
-returns-11 : tie.Need-returns-11
-returns-11 c = told (c .enum-told9 .given .1)
-
-returns-12 : tie.Need-returns-12
-returns-12 c = told (c .enum-told10 .given .1)
-
-returns-13 : tie.Need-returns-13
-returns-13 c = told (c .enum-told11 .given .1)
-
-returns-14 : tie.Need-returns-14
-returns-14 c = told (c .enum-told12 .given .1)
-
-returns-15 : tie.Need-returns-15
-returns-15 c = told (c .enum-told13 .given .1)
-
-returns-16 : tie.Need-returns-16
-returns-16 c = told (c .enum-told14 .given .1)
-
-returns-17 : tie.Need-returns-17
-returns-17 c = told (c .enum-told15 .given .1)
-
-returns-18 : tie.Need-returns-18
-returns-18 c = told (c .enum-told16 .given .1)
-
-returns-19 : tie.Need-returns-19
-returns-19 c = told (c .enum-told17 .given .1)
+-- what is told of the case that a refusal is
+by-case : (w v : Refusal) (t : Told) → w ≡ v → toldOf v ≡ t → t ≡ toldOf w
+by-case w v t e f = sym f ∙ sym (ap toldOf e)
 
 pub told-spec : {M : Type 1} → statement M
 told-spec =
@@ -89,22 +34,22 @@ told-spec =
     (λ c. search needs)
     (λ c. search needs)
     (λ c. search needs)
-    returns
-    returns-2
-    returns-3
-    returns-4
-    returns-5
-    returns-6
-    returns-7
-    returns-8
-    returns-9
-    returns-10
-    returns-11
-    returns-12
-    returns-13
-    returns-14
-    returns-15
-    returns-16
-    returns-17
-    returns-18
-    returns-19)
+    (λ c. search by-case)
+    (λ c. search by-case)
+    (λ c. search by-case)
+    (λ c. search by-case)
+    (λ c. search by-case)
+    (λ c. search by-case)
+    (λ c. search by-case)
+    (λ c. search by-case)
+    (λ c. search by-case)
+    (λ c. search by-case)
+    (λ c. search by-case)
+    (λ c. search by-case)
+    (λ c. search by-case)
+    (λ c. search by-case)
+    (λ c. search by-case)
+    (λ c. search by-case)
+    (λ c. search by-case)
+    (λ c. search by-case)
+    (λ c. search by-case))
