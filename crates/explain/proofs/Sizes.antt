@@ -1,10 +1,14 @@
 -- No text is longer than saidMost, whatever its numbers. Assumes nothing.
 use Prim.Native.Nat.{ℕ, _/_, _%_, _≤_}
-use mathlib.Core.List.{List}
+use mathlib.Core.Path.{_≡_}
+use mathlib.Core.List.{List, [], _∷_}
+use mathlib.Core.Logic.{ite}
+use native.Mathlib.Decide.{ℕ-discrete}
 use native.Mathlib.Omega.{arith}
 use lib.ListN.{length, length-append}
 use Rattle.show.specs.declared.refusal.Refusal.{Refusal}
-use Rattle.show.specs.declared.refusal.Refusal.the-variants.{FileLength, Counts, Distances, NoteLength, DriveLimits, LayoutLimits, SessionLimits, NoSet, NoSession, TooMuch, TooLong, NotStarted, ReadUnderway, PutLimit, NegativeSlack, BufferShort, NothingUnderway, AlreadyStarted, Damaged}
+use Rattle.show.specs.declared.refusal.Told.{Told}
+use Rattle.show.specs.Refusals.{toldOf}
 use Rattle.text.specs.Decimal.{decimal}
 use Rattle.text.specs.Lines.{refusedText}
 use Rattle.text.specs.Puts.{FitsAt}
@@ -12,34 +16,37 @@ use Rattle.text.proofs.Digits.{decimal-most}
 use Rattle.text.proofs.Lines.{refused-few}
 use Rattle.reason.specs.declared.Reason.{Reason}
 use Rattle.reason.specs.declared.Reason.the-variants as reason
-use Rattle.explain.specs.Text.{sentence, refusalText, reasonText}
+use Rattle.explain.specs.Text.{sentences, spoken, sentence, refusalText, reasonText}
 use Rattle.explain.specs.Answers.{SaidIs, because, unread, saidMost}
 
-sentence-few : (w : Refusal) → length (sentence w) ≤ 80
+-- a table of sentences of at most 80 bytes each
+abbrev Few : List (ℕ × List ℕ) → Type 0
+Few [] = Unit
+Few (s ∷ rest) = (length (s .1) ≤ 80) × Few rest
+
+spoken-few : (l : List (ℕ × List ℕ)) (n : ℕ) → Few l → length (spoken l n) ≤ 80
+unfolding spoken
+spoken-few [] n few = omega arith
+spoken-few (s ∷ rest) n few = from (ℕ-discrete n (s .0)) (spoken-few rest n (few .1))
+  where
+    from : (d : Dec (n ≡ s .0)) → length (spoken rest n) ≤ 80 → length (ite d (s .1) (spoken rest n)) ≤ 80
+    from (yes e) h = few .0
+    from (no e) h = h
+
+sentences-few : (i : ℕ) → Few (sentences i)
+sentences-few i =
+    let place = decimal-most i in
+    (omega arith, (omega arith, (omega arith, (omega arith, (omega arith, (simp length-append (omega arith), (simp length-append (omega arith), tt)))))))
+
+sentence-few : (t : Told) → length (sentence t) ≤ 80
 unfolding sentence
-sentence-few FileLength = omega arith
-sentence-few Counts = omega arith
-sentence-few Distances = omega arith
-sentence-few NoteLength = omega arith
-sentence-few DriveLimits = omega arith
-sentence-few (LayoutLimits i) = let place = decimal-most i in simp length-append (omega arith)
-sentence-few (SessionLimits i) = let place = decimal-most i in simp length-append (omega arith)
-sentence-few NoSet = omega arith
-sentence-few NoSession = omega arith
-sentence-few TooMuch = omega arith
-sentence-few TooLong = omega arith
-sentence-few NotStarted = omega arith
-sentence-few ReadUnderway = omega arith
-sentence-few PutLimit = omega arith
-sentence-few NegativeSlack = omega arith
-sentence-few BufferShort = omega arith
-sentence-few NothingUnderway = omega arith
-sentence-few AlreadyStarted = omega arith
-sentence-few Damaged = omega arith
+sentence-few t = spoken-few (sentences (t .place)) (t .number) (sentences-few (t .place))
 
 refusal-few : (w : Refusal) → length (refusalText w) ≤ saidMost
 refusal-few w =
-    let line = refused-few w in let rest = sentence-few w in omega (arith, length-append (refusedText w) (sentence w))
+    let line = refused-few w in
+    let rest = sentence-few (toldOf w) in
+    omega (arith, length-append (refusedText w) (sentence (toldOf w)))
 
 module _ (t : ℕ) where
   whole : length (decimal (t / 10)) ≤ 20

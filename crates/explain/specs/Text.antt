@@ -1,8 +1,11 @@
 -- The line and the sentence for each reason, as bytes: docs/RULES.md, section 11.
 use Prim.Native.Nat.{ℕ, _/_, _%_}
-use mathlib.Core.List.{List, _++_}
+use mathlib.Core.List.{List, [], _∷_, _++_}
+use mathlib.Core.Logic.{ite}
+use native.Mathlib.Decide.{ℕ-discrete}
 use Rattle.show.specs.declared.refusal.Refusal.{Refusal}
-use Rattle.show.specs.declared.refusal.Refusal.the-variants.{FileLength, Counts, Distances, NoteLength, DriveLimits, LayoutLimits, SessionLimits, NoSet, NoSession, TooMuch, TooLong, NotStarted, ReadUnderway, PutLimit, NegativeSlack, BufferShort, NothingUnderway, AlreadyStarted, Damaged}
+use Rattle.show.specs.declared.refusal.Told.{Told}
+use Rattle.show.specs.Refusals.{toldOf}
 use Rattle.text.specs.Ascii.{ascii}
 use Rattle.text.specs.Decimal.{decimal}
 use Rattle.text.specs.Lines.{paired, refusedText}
@@ -24,31 +27,37 @@ bufferText i size tenths =
 abbrev pub plainly : List ℕ
 plainly = ascii "The show is refused.\n"
 
--- What a refusal means: a file is refused with 1 to 7.
-unfoldable pub sentence : Refusal → List ℕ
-sentence FileLength = ascii "This is no show file, or not all of it: it is too short or too long to be one.\n"
-sentence Counts = ascii "The show says that it has no layout, or too many layouts or clips.\n"
-sentence Distances = ascii "The file is damaged: its parts are not where it says they are.\n"
-sentence NoteLength = ascii "The note in the file is too long.\n"
-sentence DriveLimits = ascii "The block size, or the number of blocks to a cylinder, cannot be right.\n"
-sentence (LayoutLimits i) = ascii "Layout " ++ (decimal i ++ ascii ", counted from 0, has a time that cannot be right.\n")
-sentence (SessionLimits i) = ascii "Clip " ++ (decimal i ++ ascii ", counted from 0, has a number that cannot be right.\n")
-sentence NoSet = plainly
-sentence NoSession = plainly
-sentence TooMuch = plainly
-sentence TooLong = plainly
-sentence NotStarted = plainly
-sentence ReadUnderway = plainly
-sentence PutLimit = plainly
-sentence NegativeSlack = plainly
-sentence BufferShort = plainly
-sentence NothingUnderway = plainly
-sentence AlreadyStarted = plainly
-sentence Damaged = plainly
+-- a layout or a clip by its place
+abbrev pub layoutText : ℕ → List ℕ
+layoutText i = ascii "Layout " ++ (decimal i ++ ascii ", counted from 0, has a time that cannot be right.\n")
+
+abbrev pub clipText : ℕ → List ℕ
+clipText i = ascii "Clip " ++ (decimal i ++ ascii ", counted from 0, has a number that cannot be right.\n")
+
+-- What each number means that a file is refused with; i is the place.
+abbrev pub sentences : ℕ → List (ℕ × List ℕ)
+sentences i =
+    (1, ascii "This is no show file, or not all of it: it is too short or too long to be one.\n")
+    ∷ (2, ascii "The show says that it has no layout, or too many layouts or clips.\n")
+    ∷ (3, ascii "The file is damaged: its parts are not where it says they are.\n")
+    ∷ (4, ascii "The note in the file is too long.\n")
+    ∷ (5, ascii "The block size, or the number of blocks to a cylinder, cannot be right.\n")
+    ∷ (6, layoutText i)
+    ∷ (7, clipText i)
+    ∷ []
+
+-- the sentence that stands at a number in such a table
+unfoldable pub spoken : List (ℕ × List ℕ) → ℕ → List ℕ
+spoken [] n = plainly
+spoken (s ∷ rest) n = ite (ℕ-discrete n (s .0)) (s .1) (spoken rest n)
+
+-- What a refusal means, by the number and the place that it is told by.
+unfoldable pub sentence : Told → List ℕ
+sentence t = spoken (sentences (t .place)) (t .number)
 
 -- The calculator's line for a refusal, and what it means.
 abbrev pub refusalText : Refusal → List ℕ
-refusalText w = refusedText w ++ sentence w
+refusalText w = refusedText w ++ sentence (toldOf w)
 
 -- The reason, and the load in tenths of a per cent.
 abbrev pub reasonText : Reason → ℕ → List ℕ

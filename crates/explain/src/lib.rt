@@ -34,7 +34,7 @@ fn put_refusal(out: &mut [u8], why: Refusal) -> usize
         told.place as u64,
         b"\n",
     );
-    put_sentence(out, next, why)
+    put_sentence(out, next, told)
 }
 
 fn put_reason(out: &mut [u8], reason: Reason, tenths: u64) -> usize

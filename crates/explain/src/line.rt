@@ -1,12 +1,12 @@
 // The lines and sentences, put into a lent buffer that has room for them.
+ghost use mathlib.Core.Path.{_≡_};
 ghost use Prim.Native.Nat.{_≤_};
 ghost use lib.ListN.{length};
-ghost use Rattle.show.specs.declared.refusal.Refusal.the-variants.{LayoutLimits, SessionLimits};
-ghost use Rattle.text.specs.Puts.{FitsAt, Put};
+ghost use Rattle.text.specs.Puts.{putOver, putTo, FitsAt, Put};
 ghost use Rattle.text.specs.Lines.{paired};
-ghost use Rattle.explain.specs.Text.{loadText, bufferText, sentence};
+ghost use Rattle.explain.specs.Text.{loadText, bufferText, layoutText, clipText, sentence};
 ghost use Rattle.explain.specs.Answers.{saidMost};
-use show::refusal::Refusal;
+use show::refusal::Told;
 
 // Two numbers among words.
 pub(crate) fn put_pair(
@@ -50,43 +50,44 @@ pub(crate) fn put_buffer(out: &mut [u8], session: u64, size: u64, tenths: u64) -
     put_load(out, load, b"", tenths, b" per cent.\n")
 }
 
-// What a refusal of a file means.
-pub(crate) fn put_sentence(out: &mut [u8], at: usize, why: Refusal) -> usize
-    requires { ⌜ FitsAt (now out) at (sentence why) ⌝ }
-    ensures { λ r. ⌜ Put (now (out .entry)) at (sentence why) (now (out .exit)) r ⌝ }
+// What a refusal of a file means, by what it is told by.
+pub(crate) fn put_sentence(out: &mut [u8], at: usize, told: Told) -> usize
+    requires { ⌜ FitsAt (now out) at (sentence told) ⌝ }
+    ensures { λ r. ⌜ Put (now (out .entry)) at (sentence told) (now (out .exit)) r ⌝ }
 {
-    match why {
-        Refusal::FileLength => text::put_word(
+    let place = told.place as u64;
+    let number = told.number;
+    match number {
+        1 => text::put_word(
             out,
             at,
             b"This is no show file, or not all of it: it is too short or too long to be one.\n",
         ),
-        Refusal::Counts => text::put_word(
+        2 => text::put_word(
             out,
             at,
             b"The show says that it has no layout, or too many layouts or clips.\n",
         ),
-        Refusal::Distances => text::put_word(
+        3 => text::put_word(
             out,
             at,
             b"The file is damaged: its parts are not where it says they are.\n",
         ),
-        Refusal::NoteLength => text::put_word(out, at, b"The note in the file is too long.\n"),
-        Refusal::DriveLimits => text::put_word(
+        4 => text::put_word(out, at, b"The note in the file is too long.\n"),
+        5 => text::put_word(
             out,
             at,
             b"The block size, or the number of blocks to a cylinder, cannot be right.\n",
         ),
-        Refusal::LayoutLimits(place) => put_layout(out, at, place as u64),
-        Refusal::SessionLimits(place) => put_clip(out, at, place as u64),
+        6 => put_layout(out, at, place),
+        7 => put_clip(out, at, place),
         _ => text::put_word(out, at, b"The show is refused.\n"),
     }
 }
 
-// The sentence for 6.
 fn put_layout(out: &mut [u8], at: usize, place: u64) -> usize
-    requires { ⌜ FitsAt (now out) at (sentence (LayoutLimits place)) ⌝ }
-    ensures { λ r. ⌜ Put (now (out .entry)) at (sentence (LayoutLimits place)) (now (out .exit)) r ⌝ }
+    ensures { λ r. ⌜ now (out .exit) ≡ putOver (now (out .entry)) at (layoutText place) ⌝ }
+    ensures { λ r. ⌜ r ≡ putTo (now (out .entry)) at (layoutText place) ⌝ }
 {
     text::put_numbered(
         out,
@@ -97,10 +98,9 @@ fn put_layout(out: &mut [u8], at: usize, place: u64) -> usize
     )
 }
 
-// The sentence for 7.
 fn put_clip(out: &mut [u8], at: usize, place: u64) -> usize
-    requires { ⌜ FitsAt (now out) at (sentence (SessionLimits place)) ⌝ }
-    ensures { λ r. ⌜ Put (now (out .entry)) at (sentence (SessionLimits place)) (now (out .exit)) r ⌝ }
+    ensures { λ r. ⌜ now (out .exit) ≡ putOver (now (out .entry)) at (clipText place) ⌝ }
+    ensures { λ r. ⌜ r ≡ putTo (now (out .entry)) at (clipText place) ⌝ }
 {
     text::put_numbered(
         out,

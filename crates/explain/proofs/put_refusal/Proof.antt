@@ -1,11 +1,12 @@
 -- The line, then the sentence. Assumes nothing.
-use mathlib.Core.Path.{_≡_, sym}
+use mathlib.Core.Path.{_≡_, sym, ap}
 use Rattle.text.specs.Ascii.{ascii}
 use Rattle.text.specs.Lines.{twoLine, refusedText}
 use Rattle.text.specs.Puts.{FitsAt, Put}
 use Rattle.text.proofs.Puts.{room-as, room-first, room-then, put-as, put-then}
 use Rattle.text.proofs.Lines.{refusal-made}
-use Rattle.explain.specs.Text.{refusalText}
+use Rattle.show.specs.Refusals.{toldOf}
+use Rattle.explain.specs.Text.{sentence, refusalText}
 use Rattle.explain.proofs.Sizes.{refusal-room}
 use borrow.Author.Needs.{needs}
 use Rattle.explain.proofs.put_refusal.Statement.{statement}
@@ -25,13 +26,21 @@ put-pair-requires c κs =
     let d = c .before .before .before .before .before in
     room-as (made (d)) (room-first _ _ (room (d .before .before)))
 
+-- the sentence is by what was told
+told : (c : tie.After-told) → sentence (toldOf (c .before .before .args .why)) ≡ sentence (c .told .result)
+told c = ap sentence (sym (c .told .ensures))
+
 put-sentence-requires : tie.Need-put-sentence-requires
-put-sentence-requires c κs = room-then _ _ (room (c .before .before .before .before .before .before .before .before .before .before .before)) (line (c .before .before .before)) (c .before .before .before .put-pair .kept .0)
+put-sentence-requires c κs =
+    let p = c .before .before .before in
+    let d = p .before .before .before .before .before .before in
+    room-as (told d) (room-then _ _ (room (d .before .before)) (line p) (p .put-pair .kept .0))
 
 returns : tie.Need-returns
 returns c =
-    let d = c .before .before .before .before .before .before in
-    put-then _ _ (room (d .before .before .before .before .before .before .before .before)) (line (d)) (c .before .before .put-sentence .ensures)
+    let p = c .before .before .before .before .before .before in
+    let d = p .before .before .before .before .before .before in
+    put-then _ _ (room (d .before .before)) (line p) (put-as (sym (told d)) (c .before .before .put-sentence .ensures))
 
 pub put-refusal-spec : {M : Type 1} → statement M
 put-refusal-spec =

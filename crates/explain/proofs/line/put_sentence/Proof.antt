@@ -1,15 +1,13 @@
--- The words for each refusal; those for a refusal that no file has are the same for all. Assumes nothing.
-use mathlib.Core.Path.{_≡_, refl, sym, ap}
+-- The words for each number; those for a number that the table has not are the same for all. Assumes nothing.
+use mathlib.Core.Path.{_≡_, refl, sym, ap, _∙_}
 use mathlib.Core.List.{List, [], _∷_}
+use mathlib.Core.Logic.{ite, if-neg}
 use Prim.Native.Nat.{ℕ}
-use types.Run.{OneOf, miss}
-use denote.Enum.Declared.{tagOf}
-use Rattle.show.proofs.refusal.Refusal.{the-type}
-use Rattle.show.specs.declared.refusal.Refusal.{Refusal}
-use Rattle.show.specs.declared.refusal.Refusal.the-variants.{FileLength, Counts, Distances, NoteLength, DriveLimits, LayoutLimits, SessionLimits, NoSet, NoSession, TooMuch, TooLong, NotStarted, ReadUnderway, PutLimit, NegativeSlack, BufferShort, NothingUnderway, AlreadyStarted, Damaged}
+use native.Mathlib.Decide.{ℕ-discrete}
+use Rattle.show.specs.declared.refusal.Told.{Told}
 use Rattle.text.specs.Puts.{putOver, putTo, FitsAt, Put}
 use Rattle.text.proofs.Puts.{room-as, room-put, put-as}
-use Rattle.explain.specs.Text.{plainly, sentence}
+use Rattle.explain.specs.Text.{plainly, sentences, spoken, sentence}
 use borrow.Author.Needs.{needs}
 use Rattle.explain.proofs.line.put_sentence.Statement.{statement}
 use Rattle.explain.proofs.line.put_sentence.Tie as tie
@@ -18,117 +16,68 @@ said :
     {s t was after : List ℕ} {at next : ℕ} → s ≡ t → FitsAt was at s → (after ≡ putOver was at t) × (next ≡ putTo was at t) → Put was at s after next
 said e room f = put-as (sym e) (room-put (room-as e room) (f .0) (f .1))
 
--- the refusals that no file is refused with, by their order in the enum
-abbrev later : List ℕ
-later = 7 ∷ 8 ∷ 9 ∷ 10 ∷ 11 ∷ 12 ∷ 13 ∷ 14 ∷ 15 ∷ 16 ∷ 17 ∷ 18 ∷ []
-
-plain : (w : Refusal) → OneOf later (tagOf the-type w) → sentence w ≡ plainly
+-- an arm whose number the table has
+arm :
+    (t : Told) (n : ℕ) (s was after : List ℕ) (at next : ℕ) → after ≡ putOver was at s → next ≡ putTo was at s → t .number ≡ n →
+    spoken (sentences (t .place)) n ≡ s → FitsAt was at (sentence t) → Put was at (sentence t) after next
 unfolding sentence
-plain FileLength k = absurd (miss later 0 tt k)
-plain Counts k = absurd (miss later 1 tt k)
-plain Distances k = absurd (miss later 2 tt k)
-plain NoteLength k = absurd (miss later 3 tt k)
-plain DriveLimits k = absurd (miss later 4 tt k)
-plain (LayoutLimits i) k = absurd (miss later 5 tt k)
-plain (SessionLimits i) k = absurd (miss later 6 tt k)
-plain NoSet k = refl
-plain NoSession k = refl
-plain TooMuch k = refl
-plain TooLong k = refl
-plain NotStarted k = refl
-plain ReadUnderway k = refl
-plain PutLimit k = refl
-plain NegativeSlack k = refl
-plain BufferShort k = refl
-plain NothingUnderway k = refl
-plain AlreadyStarted k = refl
-plain Damaged k = refl
+arm t n s was after at next e f h g room = said (ap (spoken (sentences (t .place))) h ∙ g) room (e, f)
 
-put-layout-requires : tie.Need-put-layout-requires
-put-layout-requires c κs = room-as (ap sentence (c .before .before .why .given .1)) (c .before .before .before .before .before .pre)
+-- no number of a table, as the last arm is handed it
+abbrev NoneOf : Type 0 → List (ℕ × List ℕ) → ℕ → Type 0
+NoneOf before [] n = before
+NoneOf before (s ∷ rest) n = NoneOf (before × (n ≡ s .0 → ⊥)) rest n
 
-put-clip-requires : tie.Need-put-clip-requires
-put-clip-requires c κs = room-as (ap sentence (c .before .before .why2 .given .1)) (c .before .before .before .before .before .pre)
+before-them : (before : Type 0) (l : List (ℕ × List ℕ)) (n : ℕ) → NoneOf before l n → before
+before-them before [] n h = h
+before-them before (s ∷ rest) n h = before-them (before × (n ≡ s .0 → ⊥)) rest n h .0
 
-returns : tie.Need-returns
+spoken-plainly : (before : Type 0) (l : List (ℕ × List ℕ)) (n : ℕ) → NoneOf before l n → spoken l n ≡ plainly
+unfolding spoken
+spoken-plainly before [] n h = refl
+spoken-plainly before (s ∷ rest) n h =
+    if-neg (ℕ-discrete n (s .0)) (before-them (before × (n ≡ s .0 → ⊥)) rest n h .1) _ _
+    ∙ spoken-plainly (before × (n ≡ s .0 → ⊥)) rest n h
+
+-- the last arm
+last :
+    (t : Told) (was after : List ℕ) (at next : ℕ) → after ≡ putOver was at plainly → next ≡ putTo was at plainly →
+    NoneOf Unit (sentences (t .place)) (t .number) → FitsAt was at (sentence t) → Put was at (sentence t) after next
 unfolding sentence
-returns c =
-    let d = c .before .before .before .before .before in
-    said (ap sentence (d .enum-told .given .1)) (d .before .before .before .pre) (c .before .before .put-word .ensures)
-
-returns-2 : tie.Need-returns-2
-unfolding sentence
-returns-2 c =
-    let d = c .before .before .before .before .before in
-    said (ap sentence (d .enum-told2 .given .1)) (d .before .before .before .pre) (c .before .before .put-word2 .ensures)
-
-returns-3 : tie.Need-returns-3
-unfolding sentence
-returns-3 c =
-    let d = c .before .before .before .before .before in
-    said (ap sentence (d .enum-told3 .given .1)) (d .before .before .before .pre) (c .before .before .put-word3 .ensures)
-
-returns-4 : tie.Need-returns-4
-unfolding sentence
-returns-4 c =
-    let d = c .before .before .before .before .before in
-    said (ap sentence (d .enum-told4 .given .1)) (d .before .before .before .pre) (c .before .before .put-word4 .ensures)
-
-returns-5 : tie.Need-returns-5
-unfolding sentence
-returns-5 c =
-    let d = c .before .before .before .before .before in
-    said (ap sentence (d .enum-told5 .given .1)) (d .before .before .before .pre) (c .before .before .put-word5 .ensures)
-
-returns-6 : tie.Need-returns-6
-returns-6 c = put-as (sym (ap sentence (c .before .before .before .before .before .why .given .1))) (c .before .before .put-layout .ensures)
-
-returns-7 : tie.Need-returns-7
-returns-7 c = put-as (sym (ap sentence (c .before .before .before .before .before .why2 .given .1))) (c .before .before .put-clip .ensures)
-
-returns-8 : tie.Need-returns-8
-returns-8 c =
-    let d = c .before .before .before .before .before in
-    said (plain _ (d .match .keys8)) (d .before .before .pre) (c .before .before .put-word6 .ensures)
+last t was after at next e f none room = said (spoken-plainly Unit (sentences (t .place)) (t .number) none) room (e, f)
 
 pub put-sentence-spec : {M : Type 1} → statement M
+unfolding spoken ℕ-discrete
 put-sentence-spec =
     tie.close
     (tie.spec
     (λ c. search needs)
+    (λ c κs. search needs)
     (λ c. search needs)
     (λ c κs. search needs)
     (λ c. search needs)
+    (λ c κs. search needs)
     (λ c. search needs)
     (λ c κs. search needs)
     (λ c. search needs)
+    (λ c κs. search needs)
+    (λ c κs. search needs)
+    (λ c κs. search needs)
     (λ c. search needs)
     (λ c κs. search needs)
     (λ c. search needs)
+    (λ c. search arm)
     (λ c. search needs)
-    (λ c κs. search needs)
+    (λ c. search arm)
     (λ c. search needs)
+    (λ c. search arm)
     (λ c. search needs)
-    (λ c κs. search needs)
+    (λ c. search arm)
     (λ c. search needs)
-    put-layout-requires
+    (λ c. search arm)
     (λ c. search needs)
-    put-clip-requires
+    (λ c. search arm)
     (λ c. search needs)
-    (λ c κs. search needs)
+    (λ c. search arm)
     (λ c. search needs)
-    returns
-    (λ c. search needs)
-    returns-2
-    (λ c. search needs)
-    returns-3
-    (λ c. search needs)
-    returns-4
-    (λ c. search needs)
-    returns-5
-    (λ c. search needs)
-    returns-6
-    (λ c. search needs)
-    returns-7
-    (λ c. search needs)
-    returns-8)
+    (λ c. search last))
