@@ -3,3 +3,4 @@ pub mod Rows
 pub mod Lists
 pub mod Shows
 pub mod Faults
+pub mod Refusals
