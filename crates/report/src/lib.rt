@@ -5,7 +5,7 @@ ghost use lib.ListN.{length};
 ghost use Rattle.theory.specs.Counts.{roundTime};
 ghost use Rattle.theory.specs.Shows.{loadOf};
 ghost use Rattle.verdict.specs.Answers.{setOf};
-ghost use Rattle.text.specs.Lines.{twoLine, refusedText};
+ghost use Rattle.text.specs.Lines.{refusedText};
 ghost use Rattle.text.specs.Puts.{FitsAt, Put};
 ghost use Rattle.text.specs.Told.{Texted};
 ghost use Rattle.report.specs.Text.{fourLine, sessionLines, acceptedText};
@@ -20,15 +20,6 @@ use verdict::Verdict;
 
 // No text is longer.
 pub const TEXT_MOST: usize = 594;
-
-// A word and two numbers.
-fn put_two(out: &mut [u8], at: usize, word: &[u8], a: u64, b: u64) -> usize
-    requires { ⌜ FitsAt (now out) at (twoLine (now word) a b) ⌝ }
-    ensures { λ r. ⌜ Put (now (out .entry)) at (twoLine (now (word .entry)) a b) (now (out .exit)) r ⌝ }
-{
-    let second = text::put_numbered(out, at, word, a, b" ");
-    text::put_numbered(out, second, b"", b, b"\n")
-}
 
 fn put_four(out: &mut [u8], at: usize, a: u64, b: u64, c: u64, d: u64) -> usize
     requires { ⌜ FitsAt (now out) at (fourLine a b c d) ⌝ }
@@ -45,7 +36,15 @@ fn put_refusal(out: &mut [u8], why: Refusal) -> usize
     ensures { λ r. ⌜ Put (now (out .entry)) 0 (refusedText why) (now (out .exit)) r ⌝ }
 {
     let told = why.told();
-    put_two(out, 0, b"refused ", told.number as u64, told.place as u64)
+    text::put_paired(
+        out,
+        0,
+        b"refused ",
+        told.number as u64,
+        b" ",
+        told.place as u64,
+        b"\n",
+    )
 }
 
 // The line of session i: its number, its count, U of the count, and the smallest buffer that takes it.
@@ -99,7 +98,15 @@ fn put_accepted(out: &mut [u8], show: Show, decision: Decision) -> usize
 {
     let counts = decision.counts;
     let times = decision.times;
-    let next = put_two(out, 0, b"accepted ", show.playing as u64, decision.round);
+    let next = text::put_paired(
+        out,
+        0,
+        b"accepted ",
+        show.playing as u64,
+        b" ",
+        decision.round,
+        b"\n",
+    );
     put_sessions(out, next, show, counts, times)
 }
 

@@ -62,7 +62,8 @@ impl Reading {
     }
 }
 
-fn refused(why: Refusal) -> Reading
+// What a refusal answers; for whoever reads on behalf of another, too.
+pub fn refused(why: Refusal) -> Reading
     ensures { λ r. ⌜ r ≡ reading (Refused why) noShow 0 ⌝ }
 {
     let show = Show::nothing();

@@ -67,6 +67,12 @@ put-as {was} {after} {at = at} {next = next} e p = subst (λ (x : List ℕ). Put
 pub room-as : {was t u : List ℕ} {at : ℕ} → t ≡ u → FitsAt was at t → FitsAt was at u
 room-as {was} {at = at} e r = subst (λ (x : List ℕ). FitsAt was at x) e r
 
+-- what a call answers of a text by another name, where there is room
+pub answer-as :
+    {s t was after : List ℕ} {at next : ℕ} → s ≡ t → FitsAt was at s → (after ≡ putOver was at t) × (next ≡ putTo was at t) →
+    Put was at s after next
+answer-as e room f = put-as (sym e) (room-put (room-as e room) (f .0) (f .1))
+
 -- One text and then another: there is room for the first, after it for the second, and both are then put.
 module _ {was : List ℕ} {at : ℕ} (t u : List ℕ) (room : FitsAt was at (t ++ u)) where
   pub room-first : FitsAt was at t

@@ -9,6 +9,7 @@ ghost use Prim.Native.Nat.{_+_, _≤_, _<_};
 ghost use lib.ListN.{length};
 ghost use Rattle.show.specs.Limits.{Tells};
 ghost use Rattle.text.specs.Decimal.{decimal};
+ghost use Rattle.text.specs.Lines.{paired};
 ghost use Rattle.text.specs.Puts.{putOver, putTo, FitsAt, Put};
 
 // A word.
@@ -34,6 +35,32 @@ pub fn put_numbered(out: &mut [u8], at: usize, before: &[u8], n: u64, after: &[u
     let number = put_bytes(out, at, before);
     let end = put_decimal(out, number, digits, n);
     put_bytes(out, end, after)
+}
+
+// Two numbers in decimal, with what stands before, between and after them.
+pub fn put_paired(
+    out: &mut [u8],
+    at: usize,
+    before: &[u8],
+    a: u64,
+    between: &[u8],
+    b: u64,
+    after: &[u8],
+) -> usize
+    ensures { λ r. ⌜ now (out .exit) ≡ putOver (now (out .entry)) at (paired (now (before .entry)) a (now (between .entry)) b (now (after .entry))) ⌝ }
+    ensures { λ r. ⌜ r ≡ putTo (now (out .entry)) at (paired (now (before .entry)) a (now (between .entry)) b (now (after .entry))) ⌝ }
+{
+    let len = out.len();
+    let digits = width(a);
+    if !fits(len, at, before.len(), digits, between.len()) {
+        return at;
+    }
+    let half = at + (before.len() + (digits + between.len()));
+    if !fits(len, half, width(b), after.len(), 0) {
+        return at;
+    }
+    let next = put_numbered(out, at, before, a, between);
+    put_numbered(out, next, b"", b, after)
 }
 
 // Whether three texts fit from `at` on, one after the other.
