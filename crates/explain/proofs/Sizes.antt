@@ -8,6 +8,7 @@ use native.Mathlib.Omega.{arith}
 use lib.ListN.{length, length-append}
 use Rattle.show.specs.declared.refusal.Refusal.{Refusal}
 use Rattle.show.specs.declared.refusal.Told.{Told}
+use Rattle.show.specs.Limits.{bufferMost}
 use Rattle.show.specs.Refusals.{toldOf}
 use Rattle.text.specs.Decimal.{decimal}
 use Rattle.text.specs.Lines.{refusedText}
@@ -58,7 +59,7 @@ module _ (t : ℕ) where
   reason-few : (r : Reason) → length (reasonText r t) ≤ saidMost
   reason-few reason.None = simp length-append (omega (arith, whole, tenth))
   reason-few reason.Overload = simp length-append (omega (arith, whole, tenth))
-  reason-few reason.Beyond = simp length-append (omega (arith, whole, tenth))
+  reason-few reason.Beyond = simp length-append (omega (arith, whole, tenth, decimal-most bufferMost))
   reason-few (reason.Buffer i size) = simp length-append (omega (arith, whole, tenth, decimal-most i, decimal-most size))
   reason-few (reason.Refused w) = refusal-few w
 

@@ -5,6 +5,7 @@ use mathlib.Core.Logic.{ite}
 use native.Mathlib.Decide.{ℕ-discrete}
 use Rattle.show.specs.declared.refusal.Refusal.{Refusal}
 use Rattle.show.specs.declared.refusal.Told.{Told}
+use Rattle.show.specs.Limits.{bufferMost}
 use Rattle.show.specs.Refusals.{toldOf}
 use Rattle.text.specs.Ascii.{ascii}
 use Rattle.text.specs.Decimal.{decimal}
@@ -15,6 +16,13 @@ use Rattle.reason.specs.declared.Reason.the-variants as reason
 -- A load in tenths of a per cent, as a percentage among words: 1003 is 100.3.
 abbrev pub loadText : List ℕ → ℕ → List ℕ → List ℕ
 loadText before tenths after = paired before (tenths / 10) (ascii ".") (tenths % 10) after
+
+-- No buffer is large enough: the largest that there is.
+abbrev pub beyondText : ℕ → List ℕ
+beyondText tenths =
+    loadText (ascii "beyond\nThe drive would keep up, working at ") tenths
+    (ascii " per cent, but some clip would need a buffer of more than ")
+    ++ (decimal bufferMost ++ ascii " bytes, the most there is.\n")
 
 -- Too small a buffer: the session and the size on the line, and again in the sentence.
 abbrev pub bufferText : ℕ → ℕ → ℕ → List ℕ
@@ -63,8 +71,6 @@ refusalText w = refusedText w ++ sentence (toldOf w)
 abbrev pub reasonText : Reason → ℕ → List ℕ
 reasonText reason.None t = loadText (ascii "none\nThe drive keeps up: it works at ") t (ascii " per cent, and every buffer is large enough.\n")
 reasonText reason.Overload t = loadText (ascii "overload\nThe drive would have to work at ") t (ascii " per cent; at an even hundred it never keeps up.\n")
-reasonText reason.Beyond t =
-    loadText (ascii "beyond\nThe drive would keep up, working at ") t
-    (ascii " per cent, but some clip would need a buffer of more than 1073741824 bytes, the most there is.\n")
+reasonText reason.Beyond t = beyondText t
 reasonText (reason.Buffer i size) t = bufferText i size t
 reasonText (reason.Refused w) t = refusalText w

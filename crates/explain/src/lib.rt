@@ -7,9 +7,9 @@ ghost use Rattle.text.specs.Puts.{Put};
 ghost use Rattle.text.specs.Told.{Texted};
 ghost use Rattle.explain.specs.Text.{reasonText, refusalText};
 ghost use Rattle.explain.specs.Answers.{SaidIs, ExplainIs, saidMost};
+use crate::line::put_beyond;
 use crate::line::put_buffer;
 use crate::line::put_load;
-use crate::line::put_pair;
 use crate::line::put_sentence;
 use reason::Loaded;
 use reason::Reason;
@@ -25,7 +25,7 @@ fn put_refusal(out: &mut [u8], why: Refusal) -> usize
     ensures { λ r. ⌜ Put (now (out .entry)) 0 (refusalText why) (now (out .exit)) r ⌝ }
 {
     let told = why.told();
-    let next = put_pair(
+    let next = text::put_paired(
         out,
         0,
         b"refused ",
@@ -56,13 +56,7 @@ fn put_reason(out: &mut [u8], reason: Reason, tenths: u64) -> usize
             tenths,
             b" per cent; at an even hundred it never keeps up.\n",
         ),
-        Reason::Beyond => put_load(
-            out,
-            0,
-            b"beyond\nThe drive would keep up, working at ",
-            tenths,
-            b" per cent, but some clip would need a buffer of more than 1073741824 bytes, the most there is.\n",
-        ),
+        Reason::Beyond => put_beyond(out, tenths),
         Reason::Buffer { session, size } => put_buffer(out, session as u64, size, tenths),
         Reason::Refused(why) => put_refusal(out, why),
     }

@@ -3,42 +3,45 @@ ghost use mathlib.Core.Path.{_≡_};
 ghost use Prim.Native.Nat.{_≤_};
 ghost use lib.ListN.{length};
 ghost use Rattle.text.specs.Puts.{putOver, putTo, FitsAt, Put};
-ghost use Rattle.text.specs.Lines.{paired};
-ghost use Rattle.explain.specs.Text.{loadText, bufferText, layoutText, clipText, sentence};
+ghost use Rattle.explain.specs.Text.{loadText, beyondText, bufferText, layoutText, clipText, sentence};
 ghost use Rattle.explain.specs.Answers.{saidMost};
+use show::Session;
 use show::refusal::Told;
-
-// Two numbers among words.
-pub(crate) fn put_pair(
-    out: &mut [u8],
-    at: usize,
-    before: &[u8],
-    a: u64,
-    between: &[u8],
-    b: u64,
-    after: &[u8],
-) -> usize
-    requires { ⌜ FitsAt (now out) at (paired (now before) a (now between) b (now after)) ⌝ }
-    ensures { λ r. ⌜ Put (now (out .entry)) at (paired (now (before .entry)) a (now (between .entry)) b (now (after .entry))) (now (out .exit)) r ⌝ }
-{
-    let next = text::put_numbered(out, at, before, a, between);
-    text::put_numbered(out, next, b"", b, after)
-}
 
 // The load as a percentage, among words.
 pub(crate) fn put_load(out: &mut [u8], at: usize, before: &[u8], tenths: u64, after: &[u8]) -> usize
     requires { ⌜ FitsAt (now out) at (loadText (now before) tenths (now after)) ⌝ }
     ensures { λ r. ⌜ Put (now (out .entry)) at (loadText (now (before .entry)) tenths (now (after .entry))) (now (out .exit)) r ⌝ }
 {
-    put_pair(out, at, before, tenths / 10, b".", tenths % 10, after)
+    text::put_paired(out, at, before, tenths / 10, b".", tenths % 10, after)
+}
+
+pub(crate) fn put_beyond(out: &mut [u8], tenths: u64) -> usize
+    requires { ⌜ saidMost ≤ length (now out) ⌝ }
+    ensures { λ r. ⌜ Put (now (out .entry)) 0 (beyondText tenths) (now (out .exit)) r ⌝ }
+{
+    let most = put_load(
+        out,
+        0,
+        b"beyond\nThe drive would keep up, working at ",
+        tenths,
+        b" per cent, but some clip would need a buffer of more than ",
+    );
+    text::put_numbered(
+        out,
+        most,
+        b"",
+        Session::BUFFER_MOST as u64,
+        b" bytes, the most there is.\n",
+    )
 }
 
 pub(crate) fn put_buffer(out: &mut [u8], session: u64, size: u64, tenths: u64) -> usize
     requires { ⌜ saidMost ≤ length (now out) ⌝ }
     ensures { λ r. ⌜ Put (now (out .entry)) 0 (bufferText session size tenths) (now (out .exit)) r ⌝ }
 {
-    let clip = put_pair(out, 0, b"buffer ", session, b" ", size, b"\nClip ");
-    let load = put_pair(
+    let clip = text::put_paired(out, 0, b"buffer ", session, b" ", size, b"\nClip ");
+    let load = text::put_paired(
         out,
         clip,
         b"",

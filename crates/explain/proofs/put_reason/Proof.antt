@@ -5,7 +5,7 @@ use Prim.Native.Nat.{ℕ}
 use Rattle.text.specs.Puts.{Put}
 use Rattle.text.proofs.Puts.{put-as}
 use Rattle.reason.specs.declared.Reason.{Reason}
-use Rattle.reason.specs.declared.Reason.the-variants.{None, Overload, Beyond}
+use Rattle.reason.specs.declared.Reason.the-variants.{None, Overload}
 use Rattle.explain.specs.Text.{reasonText}
 use Rattle.explain.proofs.Sizes.{reason-room}
 use borrow.Author.Needs.{needs}
@@ -27,11 +27,6 @@ put-load-requires-2 c κs =
     let d = c .before .before .before .before .before .before in
     reason-room _ (d .pre) Overload (d .args .tenths)
 
-put-load-requires-3 : tie.Need-put-load-requires-3
-put-load-requires-3 c κs =
-    let d = c .before .before .before .before .before .before in
-    reason-room _ (d .pre) Beyond (d .args .tenths)
-
 returns : tie.Need-returns
 returns c =
     let d = c .before .before .before .before .before .before in
@@ -44,8 +39,8 @@ returns-2 c =
 
 returns-3 : tie.Need-returns-3
 returns-3 c =
-    let d = c .before .before .before .before .before .before in
-    named (d .before .before .before .args .tenths) (d .enum-told3 .given .1) (c .before .before .put-load3 .ensures)
+    let d = c .before .before .before .before in
+    named (d .before .before .before .args .tenths) (d .enum-told3 .given .1) (c .before .before .put-beyond .ensures)
 
 returns-4 : tie.Need-returns-4
 returns-4 c =
@@ -70,9 +65,7 @@ put-reason-spec =
     (λ c. search needs)
     put-load-requires-2
     (λ c. search needs)
-    (λ c. search needs)
-    (λ c. search needs)
-    put-load-requires-3
+    (λ c κs. search needs)
     (λ c. search needs)
     (λ c κs. search needs)
     (λ c. search needs)

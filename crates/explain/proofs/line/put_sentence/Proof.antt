@@ -1,27 +1,23 @@
 -- The words for each number; those for a number that the table has not are the same for all. Assumes nothing.
-use mathlib.Core.Path.{_≡_, refl, sym, ap, _∙_}
+use mathlib.Core.Path.{_≡_, refl, ap, _∙_}
 use mathlib.Core.List.{List, [], _∷_}
 use mathlib.Core.Logic.{ite, if-neg}
 use Prim.Native.Nat.{ℕ}
 use native.Mathlib.Decide.{ℕ-discrete}
 use Rattle.show.specs.declared.refusal.Told.{Told}
 use Rattle.text.specs.Puts.{putOver, putTo, FitsAt, Put}
-use Rattle.text.proofs.Puts.{room-as, room-put, put-as}
+use Rattle.text.proofs.Puts.{answer-as}
 use Rattle.explain.specs.Text.{plainly, sentences, spoken, sentence}
 use borrow.Author.Needs.{needs}
 use Rattle.explain.proofs.line.put_sentence.Statement.{statement}
 use Rattle.explain.proofs.line.put_sentence.Tie as tie
-
-said :
-    {s t was after : List ℕ} {at next : ℕ} → s ≡ t → FitsAt was at s → (after ≡ putOver was at t) × (next ≡ putTo was at t) → Put was at s after next
-said e room f = put-as (sym e) (room-put (room-as e room) (f .0) (f .1))
 
 -- an arm whose number the table has
 arm :
     (t : Told) (n : ℕ) (s was after : List ℕ) (at next : ℕ) → after ≡ putOver was at s → next ≡ putTo was at s → t .number ≡ n →
     spoken (sentences (t .place)) n ≡ s → FitsAt was at (sentence t) → Put was at (sentence t) after next
 unfolding sentence
-arm t n s was after at next e f h g room = said (ap (spoken (sentences (t .place))) h ∙ g) room (e, f)
+arm t n s was after at next e f h g room = answer-as (ap (spoken (sentences (t .place))) h ∙ g) room (e, f)
 
 -- no number of a table, as the last arm is handed it
 abbrev NoneOf : Type 0 → List (ℕ × List ℕ) → ℕ → Type 0
@@ -44,7 +40,7 @@ last :
     (t : Told) (was after : List ℕ) (at next : ℕ) → after ≡ putOver was at plainly → next ≡ putTo was at plainly →
     NoneOf Unit (sentences (t .place)) (t .number) → FitsAt was at (sentence t) → Put was at (sentence t) after next
 unfolding sentence
-last t was after at next e f none room = said (spoken-plainly Unit (sentences (t .place)) (t .number) none) room (e, f)
+last t was after at next e f none room = answer-as (spoken-plainly Unit (sentences (t .place)) (t .number) none) room (e, f)
 
 pub put-sentence-spec : {M : Type 1} → statement M
 unfolding spoken ℕ-discrete
