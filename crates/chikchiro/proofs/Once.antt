@@ -14,7 +14,19 @@ use Rattle.reason.specs.declared.Reason.{Reason}
 use Rattle.reason.specs.declared.Reason.the-variants as reason
 use Rattle.reason.proofs.Once.{reason-once}
 use Rattle.report.proofs.Reports.{report-once}
-use Rattle.chikchiro.specs.Answers.{ReportedIs, reported, FileDecisionIs, Slices, DecidedIs, verdictCode, filledBy, FileReasonIs, ReasonedIs, reasonCode, reasonOver}
+use Rattle.chikchiro.specs.Answers.{
+  ReportedIs,
+  reported,
+  FileDecisionIs,
+  Slices,
+  DecidedIs,
+  verdictCode,
+  filledBy,
+  FileReasonIs,
+  ReasonedIs,
+  reasonCode,
+  reasonOver,
+}
 use Rattle.chikchiro.specs.Answers as answers
 
 pub reported-once : (f b : List ℕ) (m n : ℕ) (x y : List ℕ) → ReportedIs f b m x → ReportedIs f b n y → (m ≡ n) × (x ≡ y)

@@ -75,6 +75,8 @@ module _ (mark : ℕ) (text : List ℕ) (at : ℕ) where
   unfolding partOf
   part-first k i h = let e : k - i ≡ 0 = omega arith in rw e
 
-  pub part-next : (k i to : ℕ) → i < k → drop to text ≡ restOf mark (drop at text) → partOf mark (k - (i + 1)) (drop to text) ≡ partOf mark (k - i) (drop at text)
+  pub part-next :
+      (k i to : ℕ) → i < k → drop to text ≡ restOf mark (drop at text) →
+      partOf mark (k - (i + 1)) (drop to text) ≡ partOf mark (k - i) (drop at text)
   unfolding partOf
   part-next k i to h e = let s : k - i ≡ suc (k - (i + 1)) = omega arith in rw (s, e)

@@ -27,7 +27,10 @@ module _ (least most first b : ℕ) (other : Number) where
 
   pub counted-within : least ≤ b → b ≤ most → Is (b - least + first) ≡ countedOf least most first b other
   unfolding countedOf
-  counted-within l h = sym (if-neg (decLt b least) (λ g. let f : ⊥ = omega arith in f) other _ ∙ if-neg (decLt most b) (λ g. let f : ⊥ = omega arith in f) other _)
+  counted-within l h =
+      sym
+      (if-neg (decLt b least) (λ g. let f : ⊥ = omega arith in f) other _
+      ∙ if-neg (decLt most b) (λ g. let f : ⊥ = omega arith in f) other _)
 
 pub counted-small :
     (k least most first b : ℕ) (other : Number) (d : ℕ) → most - least + first < k → ((e : ℕ) → other ≡ Is e → e < k) →

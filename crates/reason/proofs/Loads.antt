@@ -3,7 +3,21 @@ use Prim.Native.Nat.{ℕ, zero, suc, _+_, _*_, _/_, _%_, _≤_, _<_}
 use mathlib.Core.Path.{_≡_, sym, _∙_, ap}
 use mathlib.Core.Logic.{_↔_}
 use native.Mathlib.Omega.{arith}
-use native.Mathlib.Nat.{le-trans, mul-add, mul-assoc, mul-left-comm, mul-le-mul, mul-le-mul-left, mul-pos, mul-add-div, mul-add-mod-self-left, div-add-mod, div-le-self, le-div-iff-mul-le, mod-lt}
+use native.Mathlib.Nat.{
+  le-trans,
+  mul-add,
+  mul-assoc,
+  mul-left-comm,
+  mul-le-mul,
+  mul-le-mul-left,
+  mul-pos,
+  mul-add-div,
+  mul-add-mod-self-left,
+  div-add-mod,
+  div-le-self,
+  le-div-iff-mul-le,
+  mod-lt,
+}
 use Rattle.show.specs.declared.Show.{Show}
 use Rattle.show.specs.Limits.{ShowWithin, blockMost, rateMost, sessionAt}
 use Rattle.cost.specs.declared.Cost.{Cost}

@@ -8,9 +8,8 @@ ghost use mathlib.Core.List.{_++_};
 ghost use lib.ListN.{length, drop};
 ghost use Rattle.show.specs.declared.refusal.Check.the-variants.{Within, Refused};
 ghost use Rattle.showfile.specs.File.{fileOf};
-ghost use Rattle.showfile.specs.Answers.{written, reading};
+ghost use Rattle.showfile.specs.Answers.{written};
 ghost use Rattle.showfile_write.specs.Answers.{writeCheck, writtenOf, bufferOf};
-ghost use Rattle.show.specs.Limits.{noShow};
 ghost use Rattle.showfile_write.specs.Trips.{rereadOf, copiedOf, copyOf};
 use crate::bytes::put_bytes;
 use crate::rows::put_layouts;
@@ -23,6 +22,7 @@ use show::refusal::Refusal;
 use showfile::Reading;
 use showfile::Written;
 use showfile::read;
+use showfile::refused;
 use showfile::trailer::Trailer;
 
 fn unwritten(why: Refusal) -> Written
@@ -85,17 +85,6 @@ pub fn write(show: Show, note: &[u8], buffer: &mut [u8]) -> Written
     Written {
         check: Check::Within,
         len,
-    }
-}
-
-fn refused(why: Refusal) -> Reading
-    ensures { λ r. ⌜ r ≡ reading (Refused why) noShow 0 ⌝ }
-{
-    let show = Show::nothing();
-    Reading {
-        check: Check::Refused(why),
-        show,
-        note: 0,
     }
 }
 

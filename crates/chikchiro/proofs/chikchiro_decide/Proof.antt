@@ -22,7 +22,11 @@ returns-4 : tie.Need-returns-4
 returns-4 c =
     let d = c .before .before .before .before in
     let s = d .before .before .before .before .before .before .before .before in
-    decided-no _ (slices (s .args .counts .now) (s .args .times .now) (s .args .round .now)) (d .decided .result) (record { counts = d .before .before .before .if1 .left; times = d .before .before .if2 .left; round = d .before .if3 .left }) (d .decided .ensures) (c .before .before .verdict .given .1) (c .code .ensures)
+    let if1' = d .before .before .before .if1 in
+    let if2' = d .before .before .if2 in
+    let verdict = c .before .before .verdict in
+    decided-no _ (slices (s .args .counts .now) (s .args .times .now) (s .args .round .now)) (d .decided .result)
+    (record { counts = if1' .left; times = if2' .left; round = d .before .if3 .left }) (d .decided .ensures) (verdict .given .1) (c .code .ensures)
 
 returns-5 : tie.Need-returns-5
 returns-5 c =
@@ -30,7 +34,12 @@ returns-5 c =
     let s = d .before .before .before .before in
     let w = s .before .before .before .before in
     let v = w .before .before .before .before .before .before in
-    decided-yes _ (slices (v .args .counts .now) (v .args .times .now) (v .args .round .now)) (s .before .before .decided .result) (record { counts = w .before .if1 .left; times = w .if2 .left; round = s .before .before .before .if3 .left }) (s .before .before .decided .ensures) (s .enum-told .given .1) (d .put-counts .ensures) (c .before .before .put-times .ensures) (one-over _ 0 _ (s .before .before .before .if3 .left))
+    let decided = s .before .before .decided in
+    let if3' = s .before .before .before .if3 in
+    let put-times = c .before .before .put-times in
+    decided-yes _ (slices (v .args .counts .now) (v .args .times .now) (v .args .round .now)) (decided .result)
+    (record { counts = w .before .if1 .left; times = w .if2 .left; round = if3' .left }) (decided .ensures) (s .enum-told .given .1)
+    (d .put-counts .ensures) (put-times .ensures) (one-over _ 0 _ (if3' .left))
 
 pub chikchiro-decide-spec : {M : Type 1} → statement M
 chikchiro-decide-spec =

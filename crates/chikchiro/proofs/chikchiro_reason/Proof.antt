@@ -15,22 +15,34 @@ code-requires c κs = reason-small _ (c .before .before .before .reasoned .resul
 returns-2 : tie.Need-returns-2
 returns-2 c =
     let d = c .before .before .before .before in
-    reasoned-as _ _ (d .before .before .reasoned .result) (d .before .before .before .if1 .left) (d .before .before .reasoned .ensures) (d .enum-told .given .1) (c .before .before .put-reason .ensures .0) (c .before .before .put-reason .ensures .1)
+    let reasoned = d .before .before .reasoned in
+    let if1 = d .before .before .before .if1 in
+    let put-reason = c .before .before .put-reason in
+    reasoned-as _ _ (reasoned .result) (if1 .left) (reasoned .ensures) (d .enum-told .given .1) (put-reason .ensures .0) (put-reason .ensures .1)
 
 returns-3 : tie.Need-returns-3
 returns-3 c =
     let d = c .before .before .before .before in
-    reasoned-as _ _ (d .before .before .reasoned .result) (d .before .before .before .if1 .left) (d .before .before .reasoned .ensures) (d .enum-told2 .given .1) (c .before .before .put-reason2 .ensures .0) (c .before .before .put-reason2 .ensures .1)
+    let reasoned = d .before .before .reasoned in
+    let if1 = d .before .before .before .if1 in
+    let put-reason2 = c .before .before .put-reason2 in
+    reasoned-as _ _ (reasoned .result) (if1 .left) (reasoned .ensures) (d .enum-told2 .given .1) (put-reason2 .ensures .0) (put-reason2 .ensures .1)
 
 returns-4 : tie.Need-returns-4
 returns-4 c =
     let d = c .before .before .before .before in
-    reasoned-as _ _ (d .before .before .reasoned .result) (d .before .before .before .if1 .left) (d .before .before .reasoned .ensures) (d .enum-told3 .given .1) (c .before .before .put-reason3 .ensures .0) (c .before .before .put-reason3 .ensures .1)
+    let reasoned = d .before .before .reasoned in
+    let if1 = d .before .before .before .if1 in
+    let put-reason3 = c .before .before .put-reason3 in
+    reasoned-as _ _ (reasoned .result) (if1 .left) (reasoned .ensures) (d .enum-told3 .given .1) (put-reason3 .ensures .0) (put-reason3 .ensures .1)
 
 returns-5 : tie.Need-returns-5
 returns-5 c =
     let d = c .before .before .before .before .before in
-    reasoned-as _ _ (d .before .before .reasoned .result) (d .before .before .before .if1 .left) (d .before .before .reasoned .ensures) (d .session .given .1) (c .before .before .put-reason4 .ensures .0) (c .before .before .put-reason4 .ensures .1)
+    let reasoned = d .before .before .reasoned in
+    let if1 = d .before .before .before .if1 in
+    let put-reason4 = c .before .before .put-reason4 in
+    reasoned-as _ _ (reasoned .result) (if1 .left) (reasoned .ensures) (d .session .given .1) (put-reason4 .ensures .0) (put-reason4 .ensures .1)
 
 returns-6 : tie.Need-returns-6
 returns-6 c =

@@ -18,7 +18,8 @@ add-result : tie.Need-add-result
 add-result c = record { fits = (let e = ap (λ (t : Told). t .place) (c .before .told .ensures) in let p = c .before .before .pre in omega (arith, e, p)) }
 
 returns : tie.Need-returns
-returns c = (let e = ap (λ (t : Told). t .place) (c .before .told .ensures) in let n = ap (λ (t : Told). t .number) (c .before .told .ensures) in omega (arith, e, n))
+returns c =
+    (let e = ap (λ (t : Told). t .place) (c .before .told .ensures) in let n = ap (λ (t : Told). t .number) (c .before .told .ensures) in omega (arith, e, n))
 
 pub code-spec : {M : Type 1} → statement M
 code-spec = tie.close (tie.spec told-requires cast-result mul-result add-result returns)

@@ -19,7 +19,8 @@ decide-requires : tie.Need-decide-requires
 decide-requires c κs = search needs
 
 returns-2 : tie.Need-returns-2
-returns-2 c = decision-read _ (c .before .before .before .read .result) (c .before .before .before .read .ensures) _ (c .before .enum-told .given .1) (c .decide .ensures)
+returns-2 c =
+    decision-read _ (c .before .before .before .read .result) (c .before .before .before .read .ensures) _ (c .before .enum-told .given .1) (c .decide .ensures)
 
 pub decided-spec : {M : Type 1} → statement M
 decided-spec =

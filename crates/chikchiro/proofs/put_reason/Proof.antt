@@ -11,7 +11,9 @@ slice-write-out : tie.Need-slice-write-out
 slice-write-out c = search needs
 
 slice-write-out-2 : tie.Need-slice-write-out-2
-slice-write-out-2 c = (let h : 1 < length (set (c .args .out .now) 0 (c .args .kind)) = (let e = length-set (c .args .out .now) 0 (c .args .kind) in let p = c .pre in omega (arith, e, p)) in h)
+slice-write-out-2 c =
+    (let h : 1 < length
+    (set (c .args .out .now) 0 (c .args .kind)) = (let e = length-set (c .args .out .now) 0 (c .args .kind) in let p = c .pre in omega (arith, e, p)) in h)
 
 slice-write-out-3 : tie.Need-slice-write-out-3
 slice-write-out-3 c = search needs

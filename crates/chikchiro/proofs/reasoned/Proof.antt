@@ -19,7 +19,8 @@ why-requires : tie.Need-why-requires
 why-requires c κs = search needs
 
 returns-2 : tie.Need-returns-2
-returns-2 c = reason-read _ (c .before .before .before .read .result) (c .before .before .before .read .ensures) _ (c .before .enum-told .given .1) (c .why .ensures)
+returns-2 c =
+    reason-read _ (c .before .before .before .read .result) (c .before .before .before .read .ensures) _ (c .before .enum-told .given .1) (c .why .ensures)
 
 pub reasoned-spec : {M : Type 1} → statement M
 reasoned-spec =

@@ -7,16 +7,20 @@ use Rattle.explain.proofs.put_text.Tie as tie
 returns : tie.Need-returns
 returns c =
     let g = c .before .before .before .before .before .before .before .read in
-    record { text = _; holds = told-unread _ (g .result) (g .ensures) _ (c .before .before .before .before .before .check .given .1); put = c .before .before .put-refusal .ensures }
+    let check' = c .before .before .before .before .before .check in
+    let put-refusal' = c .before .before .put-refusal in
+    record { text = _; holds = told-unread _ (g .result) (g .ensures) _ (check' .given .1); put = put-refusal' .ensures }
 
 returns-2 : tie.Need-returns-2
 returns-2 c =
     let g = c .before .before .before .before .before .before .before .before .before .before .before .before .read in
     let l = c .before .before .before .before .before .before .before .load in
     let e = c .before .before .before .before .before .before .before .before .before .before .enum-told .given .1 in
+    let loaded' = c .before .before .before .before .before .loaded in
+    let why' = c .before .before .before .before .before .before .before .before .why in
     record {
       text = _;
-      holds = told-reason _ (g .result) (g .ensures) e (l .result) (l .ensures) _ _ (c .before .before .before .before .before .loaded .given .1) (c .before .before .before .before .before .before .before .before .why .ensures);
+      holds = told-reason _ (g .result) (g .ensures) e (l .result) (l .ensures) _ _ (loaded' .given .1) (why' .ensures);
       put = c .before .before .put-reason .ensures;
     }
 

@@ -30,7 +30,9 @@ returns-2 c =
 loop-again : tie.Need-loop-again Inv-loop μ-loop
 loop-again c =
     let s = c .before .before .before .before .before .before in
-    body _ _ _ (s .loop .inv) (c .before .before .before .before .before .loop-test .taken) _ _ (c .before .before .before .longer .ensures) (c .before .found .given .1)
+    let loop-test = c .before .before .before .before .before .loop-test in
+    let longer = c .before .before .before .longer in
+    body _ _ _ (s .loop .inv) (loop-test .taken) _ _ (longer .ensures) (c .before .found .given .1)
 
 returns-3 : tie.Need-returns-3 Inv-loop μ-loop
 returns-3 c = ended _ _ _ (c .before .loop .inv) (c .before .before .if1 .left) (c .loop-test .left)

@@ -1,4 +1,5 @@
--- `part` goes past k marks, where there are as many. The invariant: what is sought is part k - i of what stands from `at` on. The measure: the marks that are left.
+-- `part` goes past k marks, where there are as many. The invariant: what is sought is part k - i of what stands from `at` on.
+-- The measure: the marks that are left.
 -- Assumes nothing.
 use Prim.Native.Nat.{_≤_, _-_}
 use mathlib.Core.Path.{_≡_, sym, _∙_}
@@ -28,8 +29,14 @@ loop-holds c = (omega arith, (omega arith, let e : c .before .before .before .ar
 loop-again : tie.Need-loop-again Inv-loop μ-loop
 loop-again c =
     let s = c .before .before in
-    let a = s .before .before .before .before .args in
-    (omega arith, (omega arith, part-next (a .mark) (a .text .now) (s .loop .at) (a .k) (s .loop .i) (c .past .result) (c .before .loop-test .taken) (c .past .ensures .1) ∙ s .loop .inv .1 .1))
+    let a = s .before .before .before .before .args in (
+      omega arith,
+      (
+        omega arith,
+        part-next (a .mark) (a .text .now) (s .loop .at) (a .k) (s .loop .i) (c .past .result) (c .before .loop-test .taken)
+            (c .past .ensures .1) ∙ s .loop .inv .1 .1,
+      ),
+    )
 
 sub-result : tie.Need-sub-result Inv-loop μ-loop
 sub-result c = let e = c .next .ensures in omega arith

@@ -18,7 +18,8 @@ decode-requires c κs =
 
 returns-2 : tie.Need-returns-2
 returns-2 c =
-    let e = sym (c .before .before .before .before .before .before .before .before .bytes .ensures) ∙ c .before .before .before .before .before .before .count .given .1 in
+    let e = sym (c .before .before .before .before .before .before .before .before .bytes .ensures)
+    ∙ c .before .before .before .before .before .before .count .given .1 in
     (sym e, c .before .before .decode .ensures ∙ put-some _ _ _ e (c .before .before .before .before .if1 .taken))
 
 decode-requires-2 : tie.Need-decode-requires-2
@@ -28,7 +29,8 @@ decode-requires-2 c κs =
 
 returns-3 : tie.Need-returns-3
 returns-3 c =
-    let e = sym (c .before .before .before .before .before .before .before .before .bytes .ensures) ∙ c .before .before .before .before .before .before .count .given .1 in
+    let e = sym (c .before .before .before .before .before .before .before .before .bytes .ensures)
+    ∙ c .before .before .before .before .before .before .count .given .1 in
     (sym e, c .before .before .decode2 .ensures ∙ put-all _ _ _ e (c .before .before .before .before .if1 .left))
 
 pub unhex-spec : {M : Type 1} → statement M

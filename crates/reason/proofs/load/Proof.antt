@@ -22,12 +22,19 @@ weigh-requires : tie.Need-weigh-requires
 weigh-requires c κs = within c
 
 add-t7 : tie.Need-add-t7
-add-t7 c = let h = c .before .before .before .weigh .ensures .1 .whole in let g = c .before .before .before .weigh .ensures .1 .part in let d = div-le-self (c .before .before .before .weigh .result .part * 1000) (c .before .before .before .weigh .result .full) in let f = c .before .before .before .weigh .ensures .1 .full in omega arith
+add-t7 c =
+    let h = c .before .before .before .weigh .ensures .1 .whole in
+    let g = c .before .before .before .weigh .ensures .1 .part in
+    let d = div-le-self (c .before .before .before .weigh .result .part * 1000) (c .before .before .before .weigh .result .full) in
+    let f = c .before .before .before .weigh .ensures .1 .full in
+    omega arith
 
 returns-2 : tie.Need-returns-2
 returns-2 c =
     let d = c .before .before .before .before in
-    ap Tenths (tenths-parts _ _ (c .before .before .before .weigh .ensures .0) (c .before .before .before .weigh .ensures .1)) ∙ sym (load-told _ (sym (d .before .before .check .ensures) ∙ d .enum-told .given .1))
+    let weigh = c .before .before .before .weigh in
+    let check = d .before .before .check in
+    ap Tenths (tenths-parts _ _ (weigh .ensures .0) (weigh .ensures .1)) ∙ sym (load-told _ (sym (check .ensures) ∙ d .enum-told .given .1))
 
 pub load-spec : {M : Type 1} → statement M
 load-spec =

@@ -19,20 +19,28 @@ weigh-requires : tie.Need-weigh-requires
 weigh-requires c κs = within c
 
 returns-2 : tie.Need-returns-2
-returns-2 c = overloads _ (within (c .before .before .before)) _ (c .before .before .weigh .ensures .0) (c .before .before .weigh .ensures .1) (let h = c .if1 .taken in omega arith)
+returns-2 c =
+    let d = c .before .before .before in
+    let weigh = c .before .before .weigh in
+    overloads _ (within d) _ (weigh .ensures .0) (weigh .ensures .1) (let h = c .if1 .taken in omega arith)
 
 widest-requires : tie.Need-widest-requires
 widest-requires c κs = within (c .before .before .before)
 
 returns-3 : tie.Need-returns-3
 returns-3 c =
-    beyond-them _ (within (c .before .before .before .before .before .before .before .before)) _ (c .before .before .before .before .before .before .before .weigh .ensures .0) (c .before .before .before .before .before .before .before .weigh .ensures .1) (let h = c .before .before .before .before .before .if1 .left in omega arith) _
+    let d = c .before .before .before .before .before .before .before .before in
+    let weigh = c .before .before .before .before .before .before .before .weigh in
+    let if1 = c .before .before .before .before .before .if1 in
+    beyond-them _ (within d) _ (weigh .ensures .0) (weigh .ensures .1) (let h = if1 .left in omega arith) _
     (rw (c .before .before .before .before .widest .ensures) at (c .before .before .before .decide .ensures)) _ (c .enum-told3 .given .1)
 
 lowest-short-requires : tie.Need-lowest-short-requires
 lowest-short-requires c κs =
     let d = c .before .before .before .before in
-    (within (d .before .before .before .before), wide-counts _ _ (rw (d .widest .ensures) at (c .before .before .before .decide .ensures)) (c .enum-told2 .given .1))
+    let s = d .before .before .before .before in
+    let decide = c .before .before .before .decide in
+    (within s, wide-counts _ _ (rw (d .widest .ensures) at (decide .ensures)) (c .enum-told2 .given .1))
 
 pub why-spec : {M : Type 1} → statement M
 why-spec =

@@ -8,14 +8,18 @@ use Rattle.report.proofs.put_four.Tie as tie
 
 returns : tie.Need-returns
 returns c =
-    let a = c .before .before .before .before .before .before .before .before .before .before .before .before .before .before .before .before .before .before .before .before .before .before .before .before .before .args in
-    let p = c .before .before .before .before .before .before .before .before .before .before .before .before .before .before .before .before .before .before .before .before .put-numbered in
-    let q = c .before .before .before .before .before .before .before .before .before .before .before .before .before .before .put-numbered2 in
-    let o = c .before .before .before .before .before .before .before .before .put-numbered3 in
+    let three = c .before .before .before .before .before .before .before .before in
+    let two = three .before .before .before .before .before .before in
+    let one = two .before .before .before .before .before .before in
+    let s = one .before .before .before .before .before in
+    let a = s .args in
+    let p = one .put-numbered in
+    let q = two .put-numbered2 in
+    let o = three .put-numbered3 in
     let e = c .before .before .put-numbered4 .ensures in
-    answer-then (spaced (a .a)) (spaced (a .b) ++ (spaced (a .c) ++ ended (a .d))) (c .before .before .before .before .before .before .before .before .before .before .before .before .before .before .before .before .before .before .before .before .before .before .before .before .before .pre) (p .ensures) (p .kept .0)
+    answer-then (spaced (a .a)) (spaced (a .b) ++ (spaced (a .c) ++ ended (a .d))) (s .pre) (p .ensures) (p .kept .0)
     (λ r. answer-then (spaced (a .b)) (spaced (a .c) ++ ended (a .d)) r (q .ensures) (q .kept .0)
-    (λ s. answer-then (spaced (a .c)) (ended (a .d)) s (o .ensures) (o .kept .0) (λ t. room-put t (e .0) (e .1))))
+    (λ t. answer-then (spaced (a .c)) (ended (a .d)) t (o .ensures) (o .kept .0) (λ u. room-put u (e .0) (e .1))))
 
 pub put-four-spec : {M : Type 1} → statement M
 put-four-spec =

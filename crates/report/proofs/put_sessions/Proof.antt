@@ -42,12 +42,15 @@ put-session-requires c κs =
     let a = c .before .before .before .before .before .before .before .args in
     let l = c .before .before .before .before .loop in
     let m = setOf (a .t4) in
-    room-as (sym (line-made (a .show) (a .t4) (a .t5) (c .before .before .before .before .before .before .before .pre .0) (l .i) (omega arith)))
+    let given = c .before .before .before .before .before .before .before .pre in
+    room-as (sym (line-made (a .show) (a .t4) (a .t5) (given .0) (l .i) (omega arith)))
     (piece-room (a .out .now) (a .at) (sessionLines (loadOf (a .show)) m) (a .show .playing) (sessionLine (loadOf (a .show)) m)
-    (λ i h. lines-more (loadOf (a .show)) m i) (c .before .before .before .before .before .before .before .pre .1) (l .out) (l .i) (l .next) (l .inv) (omega arith))
+    (λ i h. lines-more (loadOf (a .show)) m i) (given .1) (l .out) (l .i) (l .next) (l .inv) (omega arith))
 
 add-i : tie.Need-add-i Inv-loop μ-loop
-add-i c = record { fits = (let w = c .before .before .before .before .before .before .before .before .before .before .pre .0 .within .counts .sessions in omega arith) }
+add-i c =
+    let given = c .before .before .before .before .before .before .before .before .before .before .pre in
+    record { fits = (let w = given .0 .within .counts .sessions in omega arith) }
 
 loop-less : tie.Need-loop-less Inv-loop μ-loop
 loop-less c = omega arith
@@ -58,9 +61,10 @@ loop-again c =
     let l = c .before .before .before .before .before .before .before .loop in
     let m = setOf (a .t4) in
     let p = c .before .before .put-session in
+    let given = c .before .before .before .before .before .before .before .before .before .before .pre in
     piece-put (a .out .now) (a .at) (sessionLines (loadOf (a .show)) m) (a .show .playing) (sessionLine (loadOf (a .show)) m)
-    (λ i h. lines-more (loadOf (a .show)) m i) (c .before .before .before .before .before .before .before .before .before .before .pre .1) (l .out) (l .i) (l .next) (l .inv) (omega arith) (p .last .0) (p .result) (p .kept .0)
-    (put-as (line-made (a .show) (a .t4) (a .t5) (c .before .before .before .before .before .before .before .before .before .before .pre .0) (l .i) (omega arith)) (p .ensures))
+    (λ i h. lines-more (loadOf (a .show)) m i) (given .1) (l .out) (l .i) (l .next) (l .inv) (omega arith) (p .last .0) (p .result) (p .kept .0)
+    (put-as (line-made (a .show) (a .t4) (a .t5) (given .0) (l .i) (omega arith)) (p .ensures))
 
 same-length : tie.Need-same-length Inv-loop μ-loop
 same-length c = c .before .before .loop .inv .same

@@ -15,7 +15,9 @@ size : (c : tie.Else1) → Between fileLeast (length (c .before .before .before 
 size c = tells-yes _ (c .before .length-within .result) (not-false _ (c .if1 .left)) (c .before .length-within .ensures)
 
 returns : tie.Need-returns
-returns c = c .refused .ensures ∙ read-length _ (tells-no _ (c .before .before .length-within .result) (not-true _ (c .before .if1 .taken)) (c .before .before .length-within .ensures))
+returns c =
+    let length-within = c .before .before .length-within in
+    c .refused .ensures ∙ read-length _ (tells-no _ (length-within .result) (not-true _ (c .before .if1 .taken)) (length-within .ensures))
 
 sub-at : tie.Need-sub-at
 sub-at c = size c .low
@@ -26,7 +28,8 @@ get-trailer-requires c κs = let s = size c in omega arith
 returns-2 : tie.Need-returns-2
 returns-2 c =
     let d = c .before .before .before .before in
-    c .refused2 .ensures ∙ read-trailer _ (size (d .before .before)) _ (d .before .get-trailer .ensures) (sym (d .check .ensures) ∙ c .before .before .check2 .given .1)
+    let check2 = c .before .before .check2 in
+    c .refused2 .ensures ∙ read-trailer _ (size (d .before .before)) _ (d .before .get-trailer .ensures) (sym (d .check .ensures) ∙ check2 .given .1)
 
 read-limits-requires : tie.Need-read-limits-requires
 read-limits-requires c κs = let s = size (c .before .before .before .before) in (omega arith, sym (c .before .before .check .ensures) ∙ c .enum-told .given .1)
@@ -34,7 +37,8 @@ read-limits-requires c κs = let s = size (c .before .before .before .before) in
 returns-3 : tie.Need-returns-3
 returns-3 c =
     let d = c .before .before .before .before in
-    c .read-limits .ensures ∙ read-rest _ (size (d .before)) _ (d .get-trailer .ensures) (sym (c .before .before .before .check .ensures) ∙ c .before .enum-told .given .1)
+    let check = c .before .before .before .check in
+    c .read-limits .ensures ∙ read-rest _ (size (d .before)) _ (d .get-trailer .ensures) (sym (check .ensures) ∙ c .before .enum-told .given .1)
 
 pub read-spec : {M : Type 1} → statement M
 read-spec =

@@ -40,7 +40,10 @@ get-show-requires c κs =
 
 returns : tie.Need-returns
 unfolding showFrom
-returns c = limits-answered _ _ (c .answer .ensures) (c .before .check .ensures) (c .before .before .get-show .ensures) (framed (c .before .before .before .before .before) .counts)
+returns c =
+    let get-show = c .before .before .get-show in
+    let d = c .before .before .before .before .before in
+    limits-answered _ _ (c .answer .ensures) (c .before .check .ensures) (get-show .ensures) (framed d .counts)
 
 pub read-limits-spec : {M : Type 1} → statement M
 read-limits-spec =

@@ -31,9 +31,13 @@ short c = omega arith
 within : (c : tie.After-enum-told) → ShowWithin (c .before .before .before .before .before .before .before .args .show)
 within c = check-within _ (sym (c .before .before .check .ensures) ∙ c .enum-told .given .1)
 
-size : (c : tie.After-enum-told) →
-    length (fileOf (c .before .before .before .before .before .before .before .args .show) (c .before .before .before .before .before .before .before .args .note .now))
-    ≡ length (c .before .before .before .before .before .before .before .args .note .now) + 16 * (c .before .before .before .before .before .before .before .args .show .laid + c .before .before .before .before .before .before .before .args .show .playing) + 20
+abbrev start : tie.After-enum-told → tie.Start
+start c = c .before .before .before .before .before .before .before
+
+size :
+    (c : tie.After-enum-told) →
+    length (fileOf (start c .args .show) (start c .args .note .now))
+    ≡ length (start c .args .note .now) + 16 * (start c .args .show .laid + start c .args .show .playing) + 20
 size c =
     let d = c .before .before .before .before .before .before .before in
     shown-length _ _ (layouts-eight (d)) (sessions-sixteen (d)) (within c .counts)

@@ -14,7 +14,10 @@ slice-aggregate-write c = note-part _ (c .before .before .before .read .ensures)
 returns-2 : tie.Need-returns-2
 returns-2 c =
     let d = c .before .before .before .before .before in
-    copy-answers _ _ (d .before .before .read .ensures) (λ i. d .before .before .before .before .shared-slice-known .given i .fits) (d .enum-told .given .1) (c .before .before .write .ensures .0) (c .before .before .write .ensures .1)
+    let read = d .before .before .read in
+    let shared-slice-known = d .before .before .before .before .shared-slice-known in
+    let write = c .before .before .write in
+    copy-answers _ _ (read .ensures) (λ i. shared-slice-known .given i .fits) (d .enum-told .given .1) (write .ensures .0) (write .ensures .1)
 
 pub copy-spec : {M : Type 1} → statement M
 copy-spec =

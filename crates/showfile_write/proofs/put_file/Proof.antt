@@ -64,29 +64,41 @@ put-layouts-requires : tie.Need-put-layouts-requires
 put-layouts-requires c κs = let f = fits (c .before .before .before .before .before .before .before .before .before .before .before) in omega arith
 
 put-sessions-requires : tie.Need-put-sessions-requires
-put-sessions-requires c κs = let f = fits (c .before .before .before .before .before .before .before .before .before .before .before .before .before .before .before) in omega arith
+put-sessions-requires c κs =
+    let f = fits (c .before .before .before .before .before .before .before .before .before .before .before .before .before .before .before) in omega arith
 
 trailer-of-requires : tie.Need-trailer-of-requires
-trailer-of-requires c κs = counts (c .before .before .before .before .before .before .before .before .before .before .before .before .before .before .before .before .before .before .before)
+trailer-of-requires c κs =
+    let bytes = c .before .before .before .before .before .before .before .before .before .before .before in
+    counts (bytes .before .before .before .before .before .before .before .before)
 
 put-trailer-requires : tie.Need-put-trailer-requires
-put-trailer-requires c κs = let f = fits (c .before .before .before .before .before .before .before .before .before .before .before .before .before .before .before .before .before .before .before .before) in omega arith
+put-trailer-requires c κs =
+    let bytes = c .before .before .before .before .before .before .before .before .before .before .before .before in
+    let f = fits (bytes .before .before .before .before .before .before .before .before) in
+    omega arith
 
 add-result : tie.Need-add-result
-add-result c = let f = fits (c .before .before .before .before .before .before .before .before .before .before .before .before .before .before .before .before .before .before .before .before .before .before .before) in omega arith
+add-result c =
+    let bytes = c .before .before .before .before .before .before .before .before .before .before .before .before .before .before .before in
+    let f = fits (bytes .before .before .before .before .before .before .before .before) in
+    omega arith
 
 returns : tie.Need-returns
 returns c =
-    let s = c .before .before .before .before .before .before .before .before .before .before .before .before .before .before .before .before .before .before .before .before .before .before .before in
+    let rows = c .before .before .before .before .before .before .before in
+    let bytes = rows .before .before .before .before .before .before .before .before in
+    let s = bytes .before .before .before .before .before .before .before .before in
     let f = fits s in
     let e = size s in
     let l = layouts-eight s in
     let p = sessions-sixteen s in
-    let note = c .before .before .before .before .before .before .before .before .before .before .before .before .before .before .before .put-bytes .ensures in
-    let layouts = c .before .before .before .before .before .before .before .before .before .before .before .put-layouts .ensures in
-    let sessions = c .before .before .before .before .before .before .before .put-sessions .ensures in
+    let note = bytes .put-bytes .ensures in
+    let layouts = rows .before .before .before .before .put-layouts .ensures in
+    let sessions = rows .put-sessions .ensures in
     let trailer = c .before .before .put-trailer .ensures in
-    (omega arith, file-filed _ _ _ (omega arith) (omega arith) (writable s .fits) note layouts sessions (rw (← (c .before .before .before .trailer-of .ensures)) trailer))
+    let trailer-of = c .before .before .before .trailer-of in
+    (omega arith, file-filed _ _ _ (omega arith) (omega arith) (writable s .fits) note layouts sessions (rw (← (trailer-of .ensures)) trailer))
 
 pub put-file-spec : {M : Type 1} → statement M
 put-file-spec =

@@ -32,7 +32,9 @@ slice-aggregate-read c =
 returns-2 : tie.Need-returns-2
 returns-2 c =
     let w = c .before .before .before .before .before .before .write .ensures in
-    (c .read .ensures ∙ reread-answers _ _ _ (w .0) (w .1) (c .before .before .enum-told .given .1) (layouts-eight (c .before .before .before .before .before .before .before .before .before .before)) (sessions-sixteen (c .before .before .before .before .before .before .before .before .before .before)), w .1)
+    let enum-told = c .before .before .enum-told in
+    let d = c .before .before .before .before .before .before .before .before .before .before in
+    (c .read .ensures ∙ reread-answers _ _ _ (w .0) (w .1) (enum-told .given .1) (layouts-eight d) (sessions-sixteen d), w .1)
 
 pub reread-spec : {M : Type 1} → statement M
 reread-spec =

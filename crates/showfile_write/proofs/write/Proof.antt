@@ -14,7 +14,9 @@ put-file-requires c κs = sym (c .before .before .before .check-write .ensures) 
 returns-2 : tie.Need-returns-2
 returns-2 c =
     let d = c .before .before .before .before in
-    filed-within _ _ _ (sym (d .before .before .check-write .ensures) ∙ d .enum-told .given .1) (c .before .before .put-file .ensures .0) (c .before .before .put-file .ensures .1)
+    let check-write = d .before .before .check-write in
+    let put-file = c .before .before .put-file in
+    filed-within _ _ _ (sym (check-write .ensures) ∙ d .enum-told .given .1) (put-file .ensures .0) (put-file .ensures .1)
 
 pub write-spec : {M : Type 1} → statement M
 write-spec =

@@ -37,7 +37,9 @@ put-byte-requires : tie.Need-put-byte-requires Inv-loop μ-loop
 put-byte-requires c κs =
     let a = c .before .before .before .before .before .before .args in
     let l = c .before .before .before .loop in
-    piece-room (a .out .now) (a .at) _ _ (one-byte (a .word .now)) (more (a .word .now)) (whole (a .word .now) (c .before .before .before .before .before .before .pre)) (l .out) (l .i) (l .next) (l .inv) (omega arith)
+    let given = c .before .before .before .before .before .before .pre in
+    piece-room (a .out .now) (a .at) _ _ (one-byte (a .word .now)) (more (a .word .now)) (whole (a .word .now) (given)) (l .out) (l .i) (l .next)
+    (l .inv) (omega arith)
 
 add-i : tie.Need-add-i Inv-loop μ-loop
 add-i c = record { fits = (let r = c .before .before .before .before .before .before .before .before .before .pre .fits in omega arith) }
@@ -50,7 +52,9 @@ loop-again c =
     let a = c .before .before .before .before .before .before .before .before .before .args in
     let l = c .before .before .before .before .before .before .loop in
     let p = c .before .before .put-byte in
-    piece-put (a .out .now) (a .at) _ _ (one-byte (a .word .now)) (more (a .word .now)) (whole (a .word .now) (c .before .before .before .before .before .before .before .before .before .pre)) (l .out) (l .i) (l .next) (l .inv) (omega arith)
+    let given = c .before .before .before .before .before .before .before .before .before .pre in
+    piece-put (a .out .now) (a .at) _ _ (one-byte (a .word .now)) (more (a .word .now)) (whole (a .word .now) (given)) (l .out) (l .i) (l .next)
+    (l .inv) (omega arith)
     (p .last .0) (p .result) (p .kept .0) (p .ensures)
 
 same-length : tie.Need-same-length Inv-loop μ-loop

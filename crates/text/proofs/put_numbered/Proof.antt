@@ -23,7 +23,10 @@ front s = s .args .before .now
 abbrev rest : tie.Start → List ℕ
 rest s = decimal (s .args .n) ++ s .args .after .now
 
-room : (c : tie.Else1) → FitsAt (c .before .before .before .before .before .before .args .out .now) (c .before .before .before .before .before .before .args .at) (front (c .before .before .before .before .before .before) ++ rest (c .before .before .before .before .before .before))
+abbrev start : tie.Else1 → tie.Start
+start c = c .before .before .before .before .before .before
+
+room : (c : tie.Else1) → FitsAt (start c .args .out .now) (start c .args .at) (front (start c) ++ rest (start c))
 room c =
     let a = c .before .before .before .before .before .before .args in
     let f = tells-yes _ (c .before .fits2 .result) (not-false _ (c .if1 .left)) (c .before .fits2 .ensures) in
@@ -43,7 +46,7 @@ put-bytes-requires c κs =
     room-first (front (d)) (rest (d)) (room (c .before))
 
 -- the room behind what stands before
-room-number : (c : tie.After-put-bytes) → FitsAt (c .put-bytes .last .0) (c .put-bytes .result) (rest (c .before .before .before .before .before .before .before .before))
+room-number : (c : tie.After-put-bytes) → FitsAt (c .put-bytes .last .0) (c .put-bytes .result) (rest (start (c .before .before)))
 room-number c =
     let d = c .before .before .before .before .before .before .before .before in
     room-then (front (d)) (rest (d)) (room (c .before .before)) (c .put-bytes .ensures) (c .put-bytes .kept .0)
@@ -51,19 +54,28 @@ room-number c =
 put-decimal-requires : tie.Need-put-decimal-requires
 put-decimal-requires c κs =
     let a = c .before .before .before .before .before .before .before .before .before .before .before .args in
-    (room-first (decimal (a .n)) (a .after .now) (room-number (c .before .before .before)), c .before .before .before .before .before .before .before .width .ensures)
+    let d = c .before .before .before in
+    let width = c .before .before .before .before .before .before .before .width in
+    (room-first (decimal (a .n)) (a .after .now) (room-number d), width .ensures)
 
 put-bytes-requires-2 : tie.Need-put-bytes-requires-2
 put-bytes-requires-2 c κs =
     let a = c .before .before .before .before .before .before .before .before .before .before .before .before .before .before .before .args in
-    room-then (decimal (a .n)) (a .after .now) (room-number (c .before .before .before .before .before .before .before)) (c .before .before .before .put-decimal .ensures) (c .before .before .before .put-decimal .kept .0)
+    let d = c .before .before .before .before .before .before .before in
+    let put-decimal = c .before .before .before .put-decimal in
+    room-then (decimal (a .n)) (a .after .now) (room-number d) (put-decimal .ensures) (put-decimal .kept .0)
 
 returns-2 : tie.Need-returns-2
 returns-2 c =
     let s = c .before .before .before .before .before .before .before .before .before .before .before .before .before .before .before .before .before .before in
-    put-answers (room (c .before .before .before .before .before .before .before .before .before .before .before .before))
-    (put-then (front s) (rest s) (room (c .before .before .before .before .before .before .before .before .before .before .before .before)) (c .before .before .before .before .before .before .before .before .before .before .put-bytes .ensures)
-    (put-then (decimal (s .args .n)) (s .args .after .now) (room-number (c .before .before .before .before .before .before .before .before .before .before)) (c .before .before .before .before .before .before .put-decimal .ensures) (c .before .before .put-bytes2 .ensures)))
+    let d = c .before .before .before .before .before .before .before .before .before .before .before .before in
+    let put-bytes = c .before .before .before .before .before .before .before .before .before .before .put-bytes in
+    let p = c .before .before .before .before .before .before .before .before .before .before in
+    let put-decimal = c .before .before .before .before .before .before .put-decimal in
+    let put-bytes2 = c .before .before .put-bytes2 in
+    put-answers (room d)
+    (put-then (front s) (rest s) (room d) (put-bytes .ensures)
+    (put-then (decimal (s .args .n)) (s .args .after .now) (room-number p) (put-decimal .ensures) (put-bytes2 .ensures)))
 
 pub put-numbered-spec : {M : Type 1} → statement M
 put-numbered-spec =

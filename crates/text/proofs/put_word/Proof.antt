@@ -25,7 +25,8 @@ same-length c = search needs
 
 returns-2 : tie.Need-returns-2
 returns-2 c =
-    let f = tells-yes _ (c .before .before .before .before .before .fits2 .result) (not-false _ (c .before .before .before .before .if1 .left)) (c .before .before .before .before .before .fits2 .ensures) in
+    let f = tells-yes _ (c .before .before .before .before .before .fits2 .result) (not-false _ (c .before .before .before .before .if1 .left))
+    (c .before .before .before .before .before .fits2 .ensures) in
     put-answers (record { fits = omega arith }) (c .before .before .put-bytes .ensures)
 
 pub put-word-spec : {M : Type 1} → statement M

@@ -54,7 +54,9 @@ short-width-requires c κs = omega arith
 
 add-result : tie.Need-add-result Inv-loop μ-loop
 add-result c =
-    record { fits = (let s = c .before .before .loop .inv .so-far in omega (arith, c .short-width .ensures, decimal-most (c .before .before .before .args .n))) }
+    let loop' = c .before .before .loop in
+    let a = c .before .before .before .args in
+    record { fits = (let s = loop' .inv .so-far in omega (arith, c .short-width .ensures, decimal-most (a .n))) }
 
 returns : tie.Need-returns Inv-loop μ-loop
 returns c = let s = c .before .before .loop .inv .so-far in omega (arith, c .short-width .ensures)

@@ -16,18 +16,22 @@ returns-2 c =
 
 mul-b : tie.Need-mul-b
 mul-b c =
-    let h = hex-small _ _ (sym (c .before .before .before .before .before .before .before .hex-digit .ensures) ∙ c .before .before .before .before .before .upper .given .1) in
+    let h = hex-small _ _
+    (sym (c .before .before .before .before .before .before .before .hex-digit .ensures) ∙ c .before .before .before .before .before .upper .given .1) in
     record { fits = omega arith }
 
 add-b : tie.Need-add-b
 add-b c =
-    let h = hex-small _ _ (sym (c .before .before .before .before .before .before .before .hex-digit .ensures) ∙ c .before .before .before .before .before .upper .given .1) in
+    let h = hex-small _ _
+    (sym (c .before .before .before .before .before .before .before .hex-digit .ensures) ∙ c .before .before .before .before .before .upper .given .1) in
     let l = hex-small _ _ (sym (c .before .before .before .hex-digit2 .ensures) ∙ c .before .lower .given .1) in
     record { fits = omega arith }
 
 returns-3 : tie.Need-returns-3
 returns-3 c =
-    both _ _ _ _ (sym (c .before .before .before .before .before .before .before .hex-digit .ensures) ∙ c .before .before .before .before .before .upper .given .1)
+    let hex-digit = c .before .before .before .before .before .before .before .hex-digit in
+    let upper = c .before .before .before .before .before .upper in
+    both _ _ _ _ (sym (hex-digit .ensures) ∙ upper .given .1)
     (sym (c .before .before .before .hex-digit2 .ensures) ∙ c .before .lower .given .1)
 
 pub pair-spec : {M : Type 1} → statement M

@@ -7,7 +7,10 @@ use Rattle.showfile.proofs.bytes.get_word.Tie as tie
 returns : tie.Need-returns
 returns c =
     let a = c .before .before .before .before .before .before .before .before .before .args in
-    word-at (a .s .now) (a .at) _ _ _ _ (c .before .before .before .before .before .before .wide .ensures .0) (c .before .before .before .before .wide2 .ensures .0) (c .before .before .wide3 .ensures .0) (c .wide4 .ensures .0)
+    let wide = c .before .before .before .before .before .before .wide in
+    let wide2 = c .before .before .before .before .wide2 in
+    let wide3 = c .before .before .wide3 in
+    word-at (a .s .now) (a .at) _ _ _ _ (wide .ensures .0) (wide2 .ensures .0) (wide3 .ensures .0) (c .wide4 .ensures .0)
 
 pub get-word-spec : {M : Type 1} → statement M
 get-word-spec =

@@ -6,7 +6,10 @@ use Rattle.showfile.proofs.rows.get_layout.Tie as tie
 
 returns : tie.Need-returns
 returns c =
-    layout-got (c .before .before .before .before .before .args .s .now) (c .before .before .before .before .before .args .at) (c .before .before .before .get-word .ensures) (c .before .before .get-word2 .ensures) (c .before .get-word3 .ensures) (c .get-word4 .ensures)
+    let a = c .before .before .before .before .before .args in
+    let get-word = c .before .before .before .get-word in
+    let get-word2 = c .before .before .get-word2 in
+    layout-got (a .s .now) (a .at) (get-word .ensures) (get-word2 .ensures) (c .before .get-word3 .ensures) (c .get-word4 .ensures)
 
 pub get-layout-spec : {M : Type 1} → statement M
 get-layout-spec =

@@ -6,7 +6,10 @@ use Rattle.showfile.proofs.rows.get_session.Tie as tie
 
 returns : tie.Need-returns
 returns c =
-    session-got (c .before .before .before .before .before .args .s .now) (c .before .before .before .before .before .args .at) (c .before .before .before .get-word .ensures) (c .before .before .get-word2 .ensures) (c .before .get-word3 .ensures) (c .get-word4 .ensures)
+    let a = c .before .before .before .before .before .args in
+    let get-word = c .before .before .before .get-word in
+    let get-word2 = c .before .before .get-word2 in
+    session-got (a .s .now) (a .at) (get-word .ensures) (get-word2 .ensures) (c .before .get-word3 .ensures) (c .get-word4 .ensures)
 
 pub get-session-spec : {M : Type 1} → statement M
 get-session-spec =

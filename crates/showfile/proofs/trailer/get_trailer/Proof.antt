@@ -6,7 +6,13 @@ use Rattle.showfile.proofs.trailer.get_trailer.Tie as tie
 
 returns : tie.Need-returns
 returns c =
-    trailer-got (c .before .before .before .before .before .before .before .args .s .now) (c .before .before .before .before .before .before .before .args .at) (c .before .before .before .before .before .get-word .ensures) (c .before .before .before .before .get-word2 .ensures) (c .before .before .before .get-half .ensures) (c .before .before .get-half2 .ensures) (c .before .get-word3 .ensures) (c .get-word4 .ensures)
+    let a = c .before .before .before .before .before .before .before .args in
+    let get-word = c .before .before .before .before .before .get-word in
+    let get-word2 = c .before .before .before .before .get-word2 in
+    let get-half = c .before .before .before .get-half in
+    let get-half2 = c .before .before .get-half2 in
+    trailer-got (a .s .now) (a .at) (get-word .ensures) (get-word2 .ensures) (get-half .ensures) (get-half2 .ensures) (c .before .get-word3 .ensures)
+    (c .get-word4 .ensures)
 
 pub get-trailer-spec : {M : Type 1} → statement M
 get-trailer-spec =

@@ -7,7 +7,9 @@ use Rattle.showfile_write.proofs.bytes.put_four.Tie as tie
 returns : tie.Need-returns
 returns c =
     let s = c .before .before .before .before .before .before .before .before .before .before .before .before .before .before .before .before .before in
-    four-words (s .args .b .now) (s .args .at) _ _ _ _ (s .pre) (c .before .before .before .before .before .before .before .before .before .before .before .before .before .before .put-word .ensures) (c .before .before .before .before .before .before .before .before .before .before .put-word2 .ensures)
+    let put-word = c .before .before .before .before .before .before .before .before .before .before .before .before .before .before .put-word in
+    let put-word2 = c .before .before .before .before .before .before .before .before .before .before .put-word2 in
+    four-words (s .args .b .now) (s .args .at) _ _ _ _ (s .pre) (put-word .ensures) (put-word2 .ensures)
     (c .before .before .before .before .before .before .put-word3 .ensures) (c .before .before .put-word4 .ensures)
 
 pub put-four-spec : {M : Type 1} → statement M

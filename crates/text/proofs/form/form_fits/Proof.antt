@@ -70,7 +70,8 @@ add-used c = record { fits = (let f = c .before .before .before .before .before 
 loop-again : tie.Need-loop-again Inv-loop μ-loop
 loop-again c =
     let p = c .before .before .piece-size in
-    body _ _ _ _ _ _ _ (c .before .before .before .before .before .loop .inv) (p .result) (p .ensures) (omega arith) (c .marks .result) (omega arith) (c .marks .ensures .0) (c .marks .ensures .1)
+    let loop' = c .before .before .before .before .before .loop in
+    body _ _ _ _ _ _ _ (loop' .inv) (p .result) (p .ensures) (omega arith) (c .marks .result) (omega arith) (c .marks .ensures .0) (c .marks .ensures .1)
 
 returns-3 : tie.Need-returns-3 Inv-loop μ-loop
 returns-3 c = ended _ _ _ _ _ _ _ (c .before .loop .inv) (omega arith)

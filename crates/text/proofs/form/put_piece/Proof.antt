@@ -26,7 +26,9 @@ returns-2 c =
     put-as (sym (piece-none (a .b) (a .numbers .now) (a .used) (c .before .if1 .left) (c .if2 .taken))) (put-none (a .out .now) (a .at))
 
 -- past both tests there is a number
-number : (c : tie.Else2) → (let a = c .before .before .before .before .args in pieceText (a .b) (a .numbers .now) (a .used) ≡ decimal (getD (a .numbers .now) (a .used) 0))
+number :
+    (c : tie.Else2) →
+    (let a = c .before .before .before .before .args in pieceText (a .b) (a .numbers .now) (a .used) ≡ decimal (getD (a .numbers .now) (a .used) 0))
 number c = let a = c .before .before .before .before .args in piece-number (a .b) (a .numbers .now) (a .used) (c .before .if1 .left) (omega arith)
 
 put-decimal-requires : tie.Need-put-decimal-requires

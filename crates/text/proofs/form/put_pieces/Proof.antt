@@ -17,7 +17,9 @@ Inv-loop out₀ at form numbers next₀ used₀ i₀ out next used i = Used form
 abbrev μ-loop : tie.MeasureT-loop
 μ-loop out₀ at form numbers next₀ used₀ i₀ out next used i = length form - i
 
-whole : (s : tie.Start Inv-loop μ-loop) → FitsAt (s .args .out .now) (s .args .at) (so-far (s .args .form .now) (s .args .numbers .now) (length (s .args .form .now)))
+whole :
+    (s : tie.Start Inv-loop μ-loop) →
+    FitsAt (s .args .out .now) (s .args .at) (so-far (s .args .form .now) (s .args .numbers .now) (length (s .args .form .now)))
 whole s = room-as (sym (pieces-whole (s .args .form .now) (s .args .numbers .now))) (s .pre)
 
 loop-holds : tie.Need-loop-holds Inv-loop μ-loop

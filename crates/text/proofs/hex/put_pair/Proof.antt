@@ -17,8 +17,10 @@ returns c =
     let d = c .before .before .before .before .before .before .before .before in
     let s = d .before .before .before in
     let e = made (s .args .b) (d .before .digit .ensures) (d .digit2 .ensures) in
+    let put-byte = c .before .before .before .before .before .before .put-byte in
+    let put-byte2 = c .before .before .put-byte2 in
     put-as e
-    (put-then (d .before .digit .result ∷ []) (d .digit2 .result ∷ []) (room-as (sym e) (s .pre)) (c .before .before .before .before .before .before .put-byte .ensures) (c .before .before .put-byte2 .ensures))
+    (put-then (d .before .digit .result ∷ []) (d .digit2 .result ∷ []) (room-as (sym e) (s .pre)) (put-byte .ensures) (put-byte2 .ensures))
 
 pub put-pair-spec : {M : Type 1} → statement M
 put-pair-spec =

@@ -24,7 +24,8 @@ distanced-requires : tie.Need-distanced-requires
 distanced-requires c κs = counts c
 
 returns-2 : tie.Need-returns-2
-returns-2 c = trailer-distances _ _ (counts (c .before .before)) (tells-no _ (c .before .distanced .result) (not-true _ (c .if2 .taken)) (c .before .distanced .ensures))
+returns-2 c =
+    trailer-distances _ _ (counts (c .before .before)) (tells-no _ (c .before .distanced .result) (not-true _ (c .if2 .taken)) (c .before .distanced .ensures))
 
 add-note-within : tie.Need-add-note-within
 add-note-within c =
@@ -45,10 +46,17 @@ sub-note-within c =
     omega arith
 
 returns-3 : tie.Need-returns-3
-returns-3 c = trailer-note _ _ (counts (c .before .before .before .before .before)) (distances (c .before .before .before)) (tells-no _ (c .before .note-within .result) (not-true _ (c .if3 .taken)) (c .before .note-within .ensures))
+returns-3 c =
+    let d = c .before .before .before .before .before in
+    let s = c .before .before .before in
+    trailer-note _ _ (counts d) (distances s) (tells-no _ (c .before .note-within .result) (not-true _ (c .if3 .taken)) (c .before .note-within .ensures))
 
 returns-4 : tie.Need-returns-4
-returns-4 c = sym (framed-check _ _ (record { counts = counts (c .before .before .before .before .before); distances = distances (c .before .before .before); note = tells-yes _ (c .before .note-within .result) (not-false _ (c .if3 .left)) (c .before .note-within .ensures) }))
+returns-4 c =
+    let d = c .before .before .before .before .before in
+    let s = c .before .before .before in
+    let note = tells-yes _ (c .before .note-within .result) (not-false _ (c .if3 .left)) (c .before .note-within .ensures) in
+    sym (framed-check _ _ (record { counts = counts d; distances = distances s; note = note }))
 
 pub check-spec : {M : Type 1} → statement M
 check-spec =
