@@ -39,7 +39,8 @@ mul-states : tie.Need-mul-states Inv-loop μ-loop
 mul-states c = let l = c .before .before .before .loop-test .taken in let h = c .before .before .before .before .before .before .pre .0 .few in omega arith
 
 array-set-from-states : tie.Need-array-set-from-states Inv-loop μ-loop
-array-set-from-states c = let l = c .before .before .before .loop-test .taken in let h = c .before .before .before .before .before .before .pre .0 .few in omega arith
+array-set-from-states c =
+    let l = c .before .before .before .loop-test .taken in let h = c .before .before .before .before .before .before .pre .0 .few in omega arith
 
 add-i : tie.Need-add-i Inv-loop μ-loop
 add-i c = let l = c .before .before .before .loop-test .taken in let h = c .before .before .before .before .before .before .pre .0 .few in omega arith
@@ -51,7 +52,8 @@ loop-again : tie.Need-loop-again Inv-loop μ-loop
 loop-again c = advanced-more _ _ _ _ _ (c .before .before .before .before .loop .inv) (c .before .before .before .loop-test .taken) _ (c .tick .ensures)
 
 returns-2 : tie.Need-returns-2 Inv-loop μ-loop
-returns-2 c = advanced-all _ _ _ _ _ (c .before .loop .inv) (c .loop-test .left) (c .before .before .before .args .started) (not-false _ (c .before .before .if1 .left))
+returns-2 c =
+    advanced-all _ _ _ _ _ (c .before .loop .inv) (c .loop-test .left) (c .before .before .before .args .started) (not-false _ (c .before .before .if1 .left))
 
 pub advance-spec : {M : Type 1} → statement M
 advance-spec =

@@ -27,7 +27,11 @@ returns-2 : tie.Need-returns-2
 returns-2 c = finish-long _ _ (tested-sound _ _ (c .before .before .before .test-run .ensures) (c .before .enum-told .given .1)) (c .if1 .taken)
 
 returns-3 : tie.Need-returns-3
-returns-3 c = finish-nothing _ _ (tested-sound _ _ (c .before .before .before .before .before .test-run .ensures) (c .before .before .before .enum-told .given .1)) (c .before .before .if1 .left) (c .enum-told3 .given .1)
+returns-3 c =
+    let test-run = c .before .before .before .before .before .test-run in
+    let enum-told = c .before .before .before .enum-told in
+    let if1 = c .before .before .if1 in
+    finish-nothing _ _ (tested-sound _ _ (test-run .ensures) (enum-told .given .1)) (if1 .left) (c .enum-told3 .given .1)
 
 advance-requires : tie.Need-advance-requires
 advance-requires c κs = let k = c .before .before .before .before in (sound-clocked _ (sound k), k .before .before .before .if1 .left)
@@ -39,16 +43,21 @@ array-copy-out-fill : tie.Need-array-copy-out-fill
 array-copy-out-fill c = let k = c .before .before .before .before .before in read-few _ (sound k) _ (k .before .underway .given .1)
 
 fill-requires : tie.Need-fill-requires
-fill-requires c κs = let k = c .before .before .before .before .before .before in let p = advanced-put _ _ _ _ (sized k) (sound k) (k .before .underway .given .1) (c .before .advance .ensures) in omega arith
+fill-requires c κs =
+    let k = c .before .before .before .before .before .before in
+    let p = advanced-put _ _ _ _ (sized k) (sound k) (k .before .underway .given .1) (c .before .advance .ensures) in
+    omega arith
 
 mul-states : tie.Need-mul-states
-mul-states c = let k = c .before .before .before .before .before .before .before in let b = read-few _ (sound k) _ (k .before .underway .given .1) in omega arith
+mul-states c =
+    let k = c .before .before .before .before .before .before .before in let b = read-few _ (sound k) _ (k .before .underway .given .1) in omega arith
 
 array-set-from-states : tie.Need-array-set-from-states
 array-set-from-states c = let k = c .before .before .before .before .before .before .before in read-few _ (sound k) _ (k .before .underway .given .1)
 
 place-after-requires : tie.Need-place-after-requires
-place-after-requires c κs = let k = c .before .before .before .before .before .before .before in read-seated _ (sound k) _ (k .before .underway .given .1) .place
+place-after-requires c κs =
+    let k = c .before .before .before .before .before .before .before in read-seated _ (sound k) _ (k .before .underway .given .1) .place
 
 returns-4 : tie.Need-returns-4
 returns-4 c =

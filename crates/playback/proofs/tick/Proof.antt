@@ -12,7 +12,11 @@ mul-clock : tie.Need-mul-clock
 mul-clock c = let m = moves-few (c .before .args .rate) (c .before .args .d) (omega arith) (c .before .pre .1) in omega arith
 
 add-clock : tie.Need-add-clock
-add-clock c = let m = moves-few (c .before .before .args .rate) (c .before .before .args .d) (omega arith) (c .before .before .pre .1) in let t = c .before .before .pre .0 .0 in let k = c .before .before .pre .0 .1 in omega arith
+add-clock c =
+    let m = moves-few (c .before .before .args .rate) (c .before .before .args .d) (omega arith) (c .before .before .pre .1) in
+    let t = c .before .before .pre .0 .0 in
+    let k = c .before .before .pre .0 .1 in
+    omega arith
 
 returns : tie.Need-returns
 returns c = ticks-free _ _ _ (c .if1 .taken)
