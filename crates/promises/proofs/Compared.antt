@@ -22,7 +22,8 @@ use Rattle.verdict.specs.Answers.{setOf}
 use Rattle.run.specs.declared.Run.{Run}
 use Rattle.run.specs.Run.{playing, stateAt}
 use Rattle.run.specs.Sound.{SoundRun}
-use Rattle.run.specs.Decisions.{below?, some?, show?, good?, false?, true?, waiting?, state?, named?, nothing?, room?, put?, mayRead?, underway?, cycle?, sound?}
+use Rattle.run.specs.Decisions.{below?, some?, show?, good?, false?, true?, waiting?, state?}
+use Rattle.run.specs.Decisions.{named?, nothing?, room?, put?, mayRead?, underway?, cycle?, sound?}
 use Rattle.standing.specs.declared.Spare.the-variants.{Time}
 use Rattle.standing.specs.Times.{slackTime}
 use Rattle.spare.specs.declared.Spared.{Spared}
@@ -52,7 +53,9 @@ record Runs : Type 0 where
   ahead : Timed (one 512000 51201) (pos 58000)
 
 runs : Runs
-unfolding told sound? show? good? below? state? named? some? cycle? false? true? waiting? nothing? room? put? mayRead? underway? counts? drive? layout? session? between? floorZ leastTo slackBy before? rank less? same? sumTo costOf worstTime edges ceil listed decLe decLt ℕ-discrete Dec·and
+unfolding told sound? show? good? below? state? named? some? cycle? false? true? waiting? nothing? room? put? mayRead? underway? counts? drive?
+    layout? session? between? floorZ leastTo slackBy before? rank less? same? sumTo costOf worstTime edges ceil listed decLe decLt ℕ-discrete
+    Dec·and
 runs =
     record {
       slow = timed (one 1 0) _ tt (omega arith) refl;

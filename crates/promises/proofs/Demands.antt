@@ -34,9 +34,28 @@ pub demands : Demands
 demands =
     record {
       first =
-          record { answered = answered; numbered = numbered; only = only; order = order; runs = hands-back; buffers = buffers; empty = empty; embedded = embedded };
+          record {
+            answered = answered;
+            numbered = numbered;
+            only = only;
+            order = order;
+            runs = hands-back;
+            buffers = buffers;
+            empty = empty;
+            embedded = embedded;
+          };
       second =
-          record { verdicts = verdicts; runs = runs; unseen = unseen; spare = spare-time; table = table; reports = reports; reasons = reasons; sayings = sayings; trips = trips };
+          record {
+            verdicts = verdicts;
+            runs = runs;
+            unseen = unseen;
+            spare = spare-time;
+            table = table;
+            reports = reports;
+            reasons = reasons;
+            sayings = sayings;
+            trips = trips;
+          };
       third = record { lighter = lighter-shows; lighter-runs = lighter-runs };
       once =
           record {

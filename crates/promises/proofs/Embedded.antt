@@ -28,7 +28,8 @@ use Rattle.text.proofs.Lines.{two-length}
 use Rattle.theory.specs.Counts.{roundTime}
 use Rattle.report.specs.Text.{sessionLines}
 use Rattle.report.specs.Answers.{TextIs, granted, eight, unread, loadIn, textMost}
-use Rattle.chikchiro.specs.Answers.{codeOf, verdictCode, filledBy, Slices, Enough, ReportedIs, reported, FileDecisionIs, DecidedIs, FileReasonIs, ReasonedIs, reasonCode, reasonOver}
+use Rattle.chikchiro.specs.Answers.{codeOf, verdictCode, filledBy, Slices, Enough, ReportedIs, reported}
+use Rattle.chikchiro.specs.Answers.{FileDecisionIs, DecidedIs, FileReasonIs, ReasonedIs, reasonCode, reasonOver}
 use Rattle.chikchiro.specs.Answers as answers
 use Rattle.promises.specs.Refusals.{Says}
 use Rattle.promises.specs.Embedded.{Embedded, codeOutcome}

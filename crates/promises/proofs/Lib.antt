@@ -23,6 +23,9 @@ pub mod SpareTime
 pub mod Answered
 pub mod Alike
 pub mod AlikeStandings
+pub mod AlikeSteps
+pub mod UnseenCycle
+pub mod UnseenStart
 pub mod Unseen
 pub mod OrderForC
 pub mod Embedded

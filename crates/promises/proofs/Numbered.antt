@@ -1,39 +1,17 @@
--- The nineteen numbers, and that an answer is known by what it comes to in numbers. Assumes nothing.
-use Prim.Native.Nat.{ℕ, zero, suc, _-_}
+-- The numbers of the refusals, and that an answer is known by what it comes to in numbers. Assumes nothing.
+use Prim.Native.Nat.{ℕ}
 use mathlib.Core.Path.{_≡_, refl, sym, ap, _∙_}
 use mathlib.Core.List.{List, [], _∷_}
 use mathlib.Core.Logic.{_⊎_, inl, inr}
 use native.Mathlib.Omega.{arith}
-use lib.Dec.{T, leb, leb→le}
 use lib.IntN.{ℤ, pos, negsuc}
 use lib.ListN.{getD}
-use Rattle.show.specs.declared.refusal.Told.{Told}
 use Rattle.show.specs.declared.refusal.Refusal.{Refusal}
-use Rattle.show.specs.declared.refusal.Refusal.the-variants.{
-  FileLength,
-  Counts,
-  Distances,
-  NoteLength,
-  DriveLimits,
-  LayoutLimits,
-  SessionLimits,
-  NoSet,
-  NoSession,
-  TooMuch,
-  TooLong,
-  NotStarted,
-  ReadUnderway,
-  PutLimit,
-  NegativeSlack,
-  BufferShort,
-  NothingUnderway,
-  AlreadyStarted,
-  Damaged,
-}
+use Rattle.show.specs.declared.refusal.Refusal.the-variants.{Damaged}
 use Rattle.show.specs.declared.refusal.Check.the-variants as check
-use Rattle.show.specs.Limits.{Between}
-use Rattle.show.specs.Refusals.{numberOf, placeOf, toldOf}
-use Rattle.show.specs.Outcomes.{Outcome, granted, checkOutcome}
+use Rattle.show.specs.Refusals.{numberOf, placeOf}
+use Rattle.show.specs.Outcomes.{Outcome, granted, refusedBy, checkOutcome}
+use Rattle.show.proofs.Refusals.{more, none, every, number-between, told-known}
 use Rattle.cost.specs.declared.worst.Worst.the-variants as worst
 use Rattle.cost.specs.WorstTimes.{worstOutcome}
 use Rattle.count.specs.declared.Asked.the-variants as asked
@@ -54,70 +32,32 @@ use Rattle.standing.specs.declared.Spare.the-variants as spare
 use Rattle.standing.specs.Answers.{spareOutcome}
 use Rattle.promises.specs.Refusals.{OneOf, KnownBy, Known, Numbered}
 
--- ---- nineteen numbers
-
--- the refusal that a number and a place tell
-abbrev meant : Told → Refusal
-meant t =
-    getD
-    (FileLength ∷ Counts ∷ Distances ∷ NoteLength ∷ DriveLimits ∷ LayoutLimits (t .place) ∷ SessionLimits (t .place)
-    ∷ NoSet ∷ NoSession ∷ TooMuch ∷ TooLong ∷ NotStarted ∷ ReadUnderway ∷ PutLimit ∷ NegativeSlack ∷ BufferShort ∷ NothingUnderway
-    ∷ AlreadyStarted ∷ [])
-    (t .number - 1) Damaged
-
-record Fact (w : Refusal) : Type 0 where
-  number : Between 1 (numberOf w) 19
-  place : OneOf (6 ∷ 7 ∷ []) (numberOf w) ⊎ (placeOf w ≡ 0)
-  back : meant (toldOf w) ≡ w
-
-plain : (w : Refusal) → T (leb 1 (numberOf w)) → T (leb (numberOf w) 19) → placeOf w ≡ 0 → meant (toldOf w) ≡ w → Fact w
-plain w low high none back =
-    record { number = record { low = leb→le 1 (numberOf w) low; high = leb→le (numberOf w) 19 high }; place = inr none; back = back }
-
-fact : (w : Refusal) → Fact w
-fact FileLength = plain FileLength tt tt refl refl
-fact Counts = plain Counts tt tt refl refl
-fact Distances = plain Distances tt tt refl refl
-fact NoteLength = plain NoteLength tt tt refl refl
-fact DriveLimits = plain DriveLimits tt tt refl refl
-fact (LayoutLimits i) = record { number = record { low = omega arith; high = omega arith }; place = inl (inl refl); back = refl }
-fact (SessionLimits i) = record { number = record { low = omega arith; high = omega arith }; place = inl (inr (inl refl)); back = refl }
-fact NoSet = plain NoSet tt tt refl refl
-fact NoSession = plain NoSession tt tt refl refl
-fact TooMuch = plain TooMuch tt tt refl refl
-fact TooLong = plain TooLong tt tt refl refl
-fact NotStarted = plain NotStarted tt tt refl refl
-fact ReadUnderway = plain ReadUnderway tt tt refl refl
-fact PutLimit = plain PutLimit tt tt refl refl
-fact NegativeSlack = plain NegativeSlack tt tt refl refl
-fact BufferShort = plain BufferShort tt tt refl refl
-fact NothingUnderway = plain NothingUnderway tt tt refl refl
-fact AlreadyStarted = plain AlreadyStarted tt tt refl refl
-fact Damaged = plain Damaged tt tt refl refl
-
 -- ---- answers
 
--- What is meant by a number, a place and values, given what is granted by values and what a refusal is in this answer.
-abbrev read : {A : Type 0} → (List ℤ → A) → (Refusal → A) → ℕ → ℕ → List ℤ → A
-read grants refuses zero place values = grants values
-read grants refuses (suc n) place values = refuses (meant (record { number = suc n; place = place }))
+-- An answer grants values or refuses, and comes to what it then comes to.
+module _ {A : Type 0} (outcome : A → Outcome) (grants : List ℤ → A) (refuses : Refusal → A) where
+  data Form : A → Type 0 where
+    granting : {a : A} → outcome a ≡ granted (outcome a .values) → grants (outcome a .values) ≡ a → Form a
+    refusing : {a : A} (w : Refusal) → outcome a ≡ refusedBy w → refuses w ≡ a → Form a
 
--- An answer that can be read back is known.
-known-by :
-    {A : Type 0} (outcome : A → Outcome) (grants : List ℤ → A) (refuses : Refusal → A) →
-    ((a : A) → read grants refuses (outcome a .number) (outcome a .place) (outcome a .values) ≡ a) → KnownBy outcome
-known-by outcome grants refuses back a b e =
-    sym (back a) ∙ ap (λ (o : Outcome). read grants refuses (o .number) (o .place) (o .values)) e ∙ back b
+  differ : {X : Type 0} (w : Refusal) (l : List ℤ) → granted l ≡ refusedBy w → X
+  differ w l e =
+      let n = number-between w .low in
+      let k = ap (λ (o : Outcome). o .number) e in
+      absurd (let f : ⊥ = omega arith in f)
 
--- A refusal can be.
-read-refusal :
-    {A : Type 0} (grants : List ℤ → A) (refuses : Refusal → A) (w : Refusal) →
-    read grants refuses (numberOf w) (placeOf w) [] ≡ refuses w
-read-refusal grants refuses w = from (numberOf w) refl
-  where
-    from : (n : ℕ) → numberOf w ≡ n → read grants refuses n (placeOf w) [] ≡ refuses w
-    from zero e = absurd (let h = fact w .number in let f : ⊥ = omega arith in f)
-    from (suc n) e = ap (λ (k : ℕ). refuses (meant (record { number = k; place = placeOf w }))) (sym e) ∙ ap refuses (fact w .back)
+  -- So it is known.
+  known-by : ((a : A) → Form a) → KnownBy outcome
+  known-by form a b e = from (form a) (form b)
+    where
+      from : Form a → Form b → a ≡ b
+      from (granting f g) (granting h k) = sym g ∙ ap (λ (o : Outcome). grants (o .values)) e ∙ k
+      from (granting f g) (refusing w h k) = differ w (outcome a .values) (sym f ∙ e ∙ h)
+      from (refusing v f g) (granting h k) = differ v (outcome b .values) (sym (sym f ∙ e ∙ h))
+      from (refusing v f g) (refusing w h k) =
+          sym g
+          ∙ ap refuses (told-known v w (ap (λ (o : Outcome). record { number = o .number; place = o .place }) (sym f ∙ e ∙ h)))
+          ∙ k
 
 -- a value, where it is not below zero
 abbrev sized : ℤ → ℕ
@@ -138,38 +78,39 @@ known : Known
 known =
     record {
       check = known-by checkOutcome (λ l. check.Within) check.Refused
-          (λ a. elim a [ check.Within ↦ refl | check.Refused w ↦ read-refusal _ _ w ]);
+          (λ a. elim a [ check.Within ↦ granting refl refl | check.Refused w ↦ refusing w refl refl ]);
       worst = known-by worstOutcome (λ l. worst.Takes (valueAt 0 l)) worst.Refused
-          (λ a. elim a [ worst.Takes t ↦ refl | worst.Refused w ↦ read-refusal _ _ w ]);
+          (λ a. elim a [ worst.Takes t ↦ granting refl refl | worst.Refused w ↦ refusing w refl refl ]);
       asked = known-by askedOutcome (λ l. asked.Count (valueAt 0 l)) asked.Refused
-          (λ a. elim a [ asked.Count m ↦ refl | asked.Refused w ↦ read-refusal _ _ w ]);
+          (λ a. elim a [ asked.Count m ↦ granting refl refl | asked.Refused w ↦ refusing w refl refl ]);
       verdict = known-by verdictOutcome (λ l. verdict.Accepted) verdict.Refused
-          (λ a. elim a [ verdict.Accepted ↦ refl | verdict.Refused w ↦ read-refusal _ _ w ]);
+          (λ a. elim a [ verdict.Accepted ↦ granting refl refl | verdict.Refused w ↦ refusing w refl refl ]);
       answer = known-by answerOutcome (λ l. getD (answer.Fails ∷ []) (valueAt 0 l) answer.Holds) answer.Refused
-          (λ a. elim a [ answer.Holds ↦ refl | answer.Fails ↦ refl | answer.Refused w ↦ read-refusal _ _ w ]);
+          (λ a. elim a [ answer.Holds ↦ granting refl refl | answer.Fails ↦ granting refl refl | answer.Refused w ↦ refusing w refl refl ]);
       reason = known-by reasonOutcome reasonFrom reason.Refused
           (λ a.
           elim a [
-            | reason.None ↦ refl
-            | reason.Overload ↦ refl
-            | reason.Beyond ↦ refl
-            | reason.Buffer i size ↦ refl
-            | reason.Refused w ↦ read-refusal _ _ w
+            | reason.None ↦ granting refl refl
+            | reason.Overload ↦ granting refl refl
+            | reason.Beyond ↦ granting refl refl
+            | reason.Buffer i size ↦ granting refl refl
+            | reason.Refused w ↦ refusing w refl refl
           ]);
       loaded = known-by loadedOutcome (λ l. loaded.Tenths (valueAt 0 l)) loaded.Refused
-          (λ a. elim a [ loaded.Tenths n ↦ refl | loaded.Refused w ↦ read-refusal _ _ w ]);
-      test = known-by testOutcome (λ l. test.Sound) (λ w. test.Damaged) (λ a. elim a [ test.Sound ↦ refl | test.Damaged ↦ refl ]);
+          (λ a. elim a [ loaded.Tenths n ↦ granting refl refl | loaded.Refused w ↦ refusing w refl refl ]);
+      test = known-by testOutcome (λ l. test.Sound) (λ w. test.Damaged)
+          (λ a. elim a [ test.Sound ↦ granting refl refl | test.Damaged ↦ refusing Damaged refl refl ]);
       choice = known-by choiceOutcome chosenFrom choice.Refused
-          (λ a. elim a [ choice.Idle ↦ refl | choice.Read i ↦ refl | choice.Refused w ↦ read-refusal _ _ w ]);
+          (λ a. elim a [ choice.Idle ↦ granting refl refl | choice.Read i ↦ granting refl refl | choice.Refused w ↦ refusing w refl refl ]);
       spare = known-by spareOutcome (λ l. spare.Time (getD l 0 (pos 0))) spare.Refused
-          (λ a. elim a [ spare.Time z ↦ refl | spare.Refused w ↦ read-refusal _ _ w ]);
+          (λ a. elim a [ spare.Time z ↦ granting refl refl | spare.Refused w ↦ refusing w refl refl ]);
     }
 
 pub numbered : Numbered
 numbered =
     record {
-      number = λ w. fact w .number;
-      known = λ v w e. sym (fact v .back) ∙ ap meant e ∙ fact w .back;
-      place = λ w. fact w .place;
+      number = number-between;
+      known = told-known;
+      place = every (λ w. OneOf (6 ∷ 7 ∷ []) (numberOf w) ⊎ (placeOf w ≡ 0)) (search (more, none, inl, inr) depth 60 fits 3000);
       answers = known;
     }

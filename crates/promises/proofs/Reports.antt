@@ -61,7 +61,8 @@ module _ (x : Show) (note : List ℕ) (shaped : Shaped x) (w : ShowWithin x) (h 
   no-told v e = told-no (fileOf x note) got as-read refl d v again e
 
 pub reports : Reports
-unfolding showCheck firstBelow counts? drive? layout? session? decLt costOf worstTime edges ceil sumTo listed padded zeroed fileOf digits decimal sessionLines wordBytes halfBytes fourBytes rowBytes layoutBytes sessionBytes trailerBytes trailerFor
+unfolding showCheck firstBelow counts? drive? layout? session? decLt costOf worstTime edges ceil sumTo listed padded zeroed fileOf digits decimal
+    sessionLines wordBytes halfBytes fourBytes rowBytes layoutBytes sessionBytes trailerBytes trailerFor
 reports =
     record {
       p3-bytes = refl;

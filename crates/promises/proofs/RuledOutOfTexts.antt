@@ -14,6 +14,7 @@ use Rattle.show.specs.Outcomes.{checkOutcome}
 use Rattle.show.specs.Decisions.{between?, counts?, drive?, layout?, session?}
 use Rattle.show.specs.Checks.{showCheck, firstBelow}
 use Rattle.show.specs.Lists.{listed, padded}
+use Rattle.show.proofs.Checks.{within-refused}
 use Rattle.show.proofs.Shows.{check-within}
 use Rattle.showfile.specs.Bytes.{halfOf, wordOf, halfBytes, wordBytes, fourBytes, rowOf, rowBytes, over}
 use Rattle.showfile.specs.File.{layoutOf, layoutBytes, sessionOf, sessionBytes, trailerOf, trailerBytes, showFrom, trailerFor, fileOf, zeroed}
@@ -33,7 +34,7 @@ use Rattle.text.specs.Puts.{putOver, putTo}
 use Rattle.text.specs.Told.{told, short}
 use Rattle.report.specs.Answers.{unread}
 use Rattle.report.proofs.Texts.{text-once}
-use Rattle.explain.specs.Text.{sentence}
+use Rattle.explain.specs.Text.{spoken, sentence}
 use Rattle.explain.specs.Answers as said
 use Rattle.explain.proofs.Texts.{said-once}
 use Rattle.reason.specs.declared.Reason.the-variants as reason
@@ -76,6 +77,7 @@ of-showfile =
           (trips .read-again small (7 ∷ []) (record { layouts = refl; sessions = refl }) (check-within small refl) (omega arith) .same-note))
           ∙ e)
           tt;
+      refusal-as-yes = λ w e. within-refused (sym e);
     }
 
 pub of-showfile-write : OfShowfileWrite
@@ -127,6 +129,7 @@ of-text =
       place-after-none = λ e. other e tt;
       ten-as-one-digit = λ e. other e tt;
       no-room-for-a-digit = λ e. apart front e tt;
+      half-a-pair = λ e. apart front e tt;
       hex-of-none = λ e. other e tt;
     }
 
@@ -144,7 +147,7 @@ of-report =
     }
 
 pub of-explain : OfExplain
-unfolding sentence digits decimal decLt
+unfolding spoken sentence digits decimal decLt ℕ-discrete
 of-explain =
     record {
       layout-said-of-a-clip = λ f e h. apart (λ (l : List ℕ). getD l 12 0) (said-once f _ _ h (said.unread (refusal.SessionLimits 0) e)) tt;

@@ -17,7 +17,8 @@ use Rattle.theory.specs.Slack.{less?, leastTo, slackBy, same?, before?, rank}
 use Rattle.verdict.specs.Answers.{DecisionIs}
 use Rattle.run.specs.Run.{leftIn}
 use Rattle.run.specs.Sound.{SoundRun}
-use Rattle.run.specs.Decisions.{below?, some?, show?, good?, false?, true?, waiting?, state?, named?, nothing?, room?, put?, mayRead?, underway?, cycle?, sound?}
+use Rattle.run.specs.Decisions.{below?, some?, show?, good?, false?, true?, waiting?, state?}
+use Rattle.run.specs.Decisions.{named?, nothing?, room?, put?, mayRead?, underway?, cycle?, sound?}
 use Rattle.run.specs.Steps.{changed, passed}
 use Rattle.run.specs.declared.Moved.{Moved}
 use Rattle.playback.proofs.Calls.{pass-granted}
@@ -41,7 +42,8 @@ from-told (yes h) t = h
 from-told (no h) t = absurd t
 
 pub eighth-sound : SoundRun eighth
-unfolding told sound? show? good? below? state? named? some? cycle? false? true? waiting? nothing? room? put? mayRead? underway? counts? drive? layout? session? between? sumTo costOf worstTime edges ceil listed decLe decLt ℕ-discrete Dec·and
+unfolding told sound? show? good? below? state? named? some? cycle? false? true? waiting? nothing? room? put? mayRead? underway? counts? drive?
+    layout? session? between? sumTo costOf worstTime edges ceil listed decLe decLt ℕ-discrete Dec·and
 eighth-sound = from-told (sound? eighth) tt
 
 -- ---- p8
@@ -68,7 +70,8 @@ p8 =
 -- ---- beside p8: unequal counts
 
 uneven-sound : SoundRun uneven
-unfolding told sound? show? good? below? state? named? some? cycle? false? true? waiting? nothing? room? put? mayRead? underway? counts? drive? layout? session? between? sumTo costOf worstTime edges ceil listed decLe decLt ℕ-discrete Dec·and
+unfolding told sound? show? good? below? state? named? some? cycle? false? true? waiting? nothing? room? put? mayRead? underway? counts? drive?
+    layout? session? between? sumTo costOf worstTime edges ceil listed decLe decLt ℕ-discrete Dec·and
 uneven-sound = from-told (sound? uneven) tt
 
 pub uneven-starts : DecisionIs (showOf X (clip ∷ faster ∷ [])) (yes-with 94000 (1 ∷ 2 ∷ []) (42000 ∷ 52000 ∷ [])) → Uneven
@@ -89,11 +92,13 @@ uneven-starts decided =
 -- ---- p9 and p10
 
 pub clocked-first : SoundRun (clocked 0)
-unfolding told sound? show? good? below? state? named? some? cycle? false? true? waiting? nothing? room? put? mayRead? underway? counts? drive? layout? session? between? sumTo costOf worstTime edges ceil listed decLe decLt ℕ-discrete Dec·and
+unfolding told sound? show? good? below? state? named? some? cycle? false? true? waiting? nothing? room? put? mayRead? underway? counts? drive?
+    layout? session? between? sumTo costOf worstTime edges ceil listed decLe decLt ℕ-discrete Dec·and
 clocked-first = from-told (sound? (clocked 0)) tt
 
 clocked-next : SoundRun (clocked 1)
-unfolding told sound? show? good? below? state? named? some? cycle? false? true? waiting? nothing? room? put? mayRead? underway? counts? drive? layout? session? between? sumTo costOf worstTime edges ceil listed decLe decLt ℕ-discrete Dec·and
+unfolding told sound? show? good? below? state? named? some? cycle? false? true? waiting? nothing? room? put? mayRead? underway? counts? drive?
+    layout? session? between? sumTo costOf worstTime edges ceil listed decLe decLt ℕ-discrete Dec·and
 clocked-next = from-told (sound? (clocked 1)) tt
 
 pub p9 : P9

@@ -10,7 +10,7 @@ use Rattle.show.specs.declared.Show.{Show}
 use Rattle.show.specs.declared.refusal.Refusal.{Refusal}
 use Rattle.show.specs.declared.refusal.Check.the-variants.{Refused}
 use Rattle.show.specs.Limits.{Between, noShow}
-use Rattle.show.specs.Refusals.{numberOf, placeOf, toldOf}
+use Rattle.show.specs.Refusals.{numberOf, placeOf, toldOf, numberMost}
 use Rattle.show.specs.Checks.{showCheck}
 use Rattle.show.specs.Outcomes.{Outcome, checkOutcome}
 use Rattle.cost.specs.declared.Cost.{Cost}
@@ -75,8 +75,8 @@ pub record Known : Type 0 where
   pub spare : KnownBy spareOutcome
 
 pub record Numbered : Type 0 where
-  -- Every refusal has a number from 1 to 19, and by its number and place it is known.
-  pub number : (w : Refusal) → Between 1 (numberOf w) 19
+  -- Every refusal has a number from 1 to the last, 19, and by its number and place it is known.
+  pub number : (w : Refusal) → Between 1 (numberOf w) numberMost
   pub known : (v w : Refusal) → toldOf v ≡ toldOf w → v ≡ w
   -- The place is 0 but for 6 and 7.
   pub place : (w : Refusal) → OneOf (6 ∷ 7 ∷ []) (numberOf w) ⊎ (placeOf w ≡ 0)

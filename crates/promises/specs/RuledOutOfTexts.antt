@@ -5,14 +5,15 @@ use mathlib.Core.Bool.{true}
 use mathlib.Core.List.{List, [], _∷_, _++_}
 use lib.ListN.{length, replicate, getD}
 use Rattle.show.specs.declared.Show.{Show}
+use Rattle.show.specs.declared.refusal.Refusal.{Refusal}
 use Rattle.show.specs.declared.refusal.Refusal.the-variants as refusal
 use Rattle.show.specs.declared.refusal.Check.the-variants.{Within, Refused}
-use Rattle.show.specs.Limits.{Tells, noLayout, noSession, layoutAt}
+use Rattle.show.specs.Limits.{Tells, noLayout, noSession, noShow, layoutAt}
 use Rattle.showfile.specs.declared.trailer.Trailer.{Trailer}
 use Rattle.showfile.specs.declared.Written.{Written}
 use Rattle.showfile.specs.File.{layoutBytes, trailerBytes, fileOf}
 use Rattle.showfile.specs.Checks.{noteLength}
-use Rattle.showfile.specs.Answers.{readOf, noteOf}
+use Rattle.showfile.specs.Answers.{reading, readOf, noteOf}
 use Rattle.showfile_write.specs.Answers.{writtenOf, bufferOf}
 use Rattle.showfile_write.specs.Trips.{rereadOf, copiedOf, copyOf}
 use Rattle.parse.specs.declared.Number.the-variants.{Not}
@@ -23,6 +24,7 @@ use Rattle.parse.specs.Places.{PlaceIs}
 use Rattle.text.specs.Ascii.{ascii}
 use Rattle.text.specs.Decimal.{decimal}
 use Rattle.text.specs.Hex.{hexText}
+use Rattle.text.specs.Lines.{paired}
 use Rattle.text.specs.Puts.{putOver, putTo}
 use Rattle.report.specs.Answers.{TextIs, ReportIs, textMost}
 use Rattle.explain.specs.Answers.{SaidIs}
@@ -58,6 +60,8 @@ pub record OfShowfile : Type 0 where
   pub unused-not-zero : layoutAt (readOf p3-file .show) 1 .rotation ≡ 1 → ⊥
   -- `note`: what follows the note
   pub note-is-the-rest : length (noteOf (fileOf small (7 ∷ []))) ≡ 36 → ⊥
+  -- `refused`: a refusal told as a yes
+  pub refusal-as-yes : (w : Refusal) → reading (Refused w) noShow 0 .check ≡ Within → ⊥
 
 pub record OfShowfileWrite : Type 0 where
   -- `write`: the note of a file that does not fit is put; a refused show is written; a byte past the file is; bytes 2 and 3 of 512,000 change places
@@ -97,6 +101,8 @@ pub record OfText : Type 0 where
   -- `put_numbered`: 10 in one digit; 100 where two digits have room
   pub ten-as-one-digit : putTo (replicate 2 0) 0 ([] ++ (decimal 10 ++ [])) ≡ 1 → ⊥
   pub no-room-for-a-digit : putOver (replicate 2 0) 0 ([] ++ (decimal 100 ++ [])) ≡ ascii "10" → ⊥
+  -- `put_paired`: the first number alone where both have no room
+  pub half-a-pair : putOver (replicate 2 0) 0 (paired [] 1 (ascii " ") 2 []) ≡ ascii "1 " → ⊥
   -- `put_hex`: nothing for no bytes
   pub hex-of-none : putTo (replicate 2 0) 0 (hexText []) ≡ 0 → ⊥
 
