@@ -1,40 +1,177 @@
-// What answers are made of, put into a lent buffer at a place: each call answers the place after what it put.
+// What answers are made of. What is put goes into a lent buffer at a place, and each call answers the place after it; what is told is written
+// at once, and each call answers false where that failed.
 ghost use Prim.Native.Nat.{_≤_};
-use show::Layout;
-use show::Session;
+use crate::given::BYTES;
+use crate::output::said;
+use crate::shows::numbers_of;
+use parse::part;
 use show::Show;
 use show::refusal::Check;
-use show::refusal::Refusal;
 use show::refusal::Told;
 use text::form::put_form;
-use text::put_word;
+use text::hex::put_hex;
 
-pub(crate) fn put_told(out: &mut [u8], at: usize, told: Told) -> usize {
-    put_form(
-        out,
-        at,
-        b"refused # #",
-        &[told.number as u64, told.place as u64],
-    )
-}
+// ---- forms: the places of the texts that an answer is made of
 
-pub(crate) fn put_refusal(out: &mut [u8], at: usize, why: Refusal) -> usize {
-    put_told(out, at, why.told())
-}
+pub(crate) const ERROR: usize = 0;
 
-pub(crate) fn put_check(out: &mut [u8], at: usize, check: Check) -> usize {
-    let Check::Refused(why) = check else {
-        return put_word(out, at, b"ok");
-    };
-    put_refusal(out, at, why)
-}
+pub(crate) const NEWLINE: usize = 1;
 
-// A word, where something is not as it must be.
-pub(crate) fn put_unless(out: &mut [u8], at: usize, right: bool, word: &[u8]) -> usize {
-    if right {
+pub(crate) const ARROW: usize = 2;
+
+const OK: usize = 3;
+
+const IDLE: usize = 4;
+
+const NONE: usize = 5;
+
+const OVERLOAD: usize = 6;
+
+const BEYOND: usize = 7;
+
+const READ: usize = 8;
+
+const VALUE: usize = 9;
+
+const BELOW: usize = 10;
+
+const BUFFER: usize = 11;
+
+const REFUSED: usize = 12;
+
+pub(crate) const ACCEPTED: usize = 13;
+
+pub(crate) const HOLDS: usize = 14;
+
+pub(crate) const FAILS: usize = 15;
+
+pub(crate) const STATE: usize = 16;
+
+pub(crate) const CONTENTS: usize = 17;
+
+pub(crate) const COPIED: usize = 18;
+
+pub(crate) const DIFFERENT: usize = 19;
+
+pub(crate) const WROTE: usize = 20;
+
+pub(crate) const REREAD: usize = 21;
+
+pub(crate) const LENGTH: usize = 22;
+
+pub(crate) const SPACE: usize = 23;
+
+pub(crate) const CYCLE: usize = 25;
+
+pub(crate) const NAMES: usize = 27;
+
+pub(crate) const CELLS: usize = 32;
+
+pub(crate) const NO_CELLS: usize = 42;
+
+const DASH: usize = 43;
+
+pub(crate) const BREAK: usize = 44;
+
+const FAULTS: usize = 45;
+
+pub(crate) const NOTHING: usize = 52;
+
+// A form with up to four numbers.
+pub(crate) fn put_said(
+    out: &mut [u8],
+    at: usize,
+    form: usize,
+    a: u64,
+    b: u64,
+    c: u64,
+    d: u64,
+) -> usize {
+    if form == NOTHING {
         return at;
     }
-    put_word(out, at, word)
+    let forms =
+        b"error #\n|\n| -> | -> ok| -> idle| -> none| -> overload| -> beyond| -> read #| -> value #| -> value -#\
+        | -> buffer # #| -> refused # #| -> accepted #| -> holds #| -> fails #| # # #| -> read | copy # same short # #\
+        | copy # differs short # #| -> wrote # | reread | #| | |= started=# place=# left=# under=-\
+        |= started=# place=# left=# under=#| M=| P=| G=| C=| O=| X=M#:#| X=P#:#| X=G#:#| X=C#:#| X=O#:#\
+        |,M#:#|,P#:#|,G#:#|,C#:#|,O#:#| X=-\n|-|\\n| beside| changed| differs\
+        | granted| note| refused| unlike";
+    put_form(out, at, part(forms, b'|', form), &[a, b, c, d])
+}
+
+pub(crate) fn tell(form: usize, a: u64, b: u64, c: u64, d: u64) -> bool {
+    let mut out = [0u8; 128];
+    let at = put_said(&mut out, 0, form, a, b, c, d);
+    said(&out, at)
+}
+
+pub(crate) fn either(first: bool, form: usize, other: usize) -> usize {
+    if first {
+        return form;
+    }
+    other
+}
+
+// ---- short answers
+
+pub(crate) enum Answer {
+    Granted,
+    Idle,
+    None,
+    Overload,
+    Beyond,
+    Read(usize),
+    Value(i64),
+    Size(u64),
+    Buffer(usize, u64),
+    Refused(Told),
+}
+
+struct Said {
+    form: usize,
+    a: u64,
+    b: u64,
+}
+
+fn said_as(form: usize, a: u64, b: u64) -> Said {
+    Said { form, a, b }
+}
+
+fn said_of(answer: Answer) -> Said {
+    match answer {
+        Answer::Granted => said_as(OK, 0, 0),
+        Answer::Idle => said_as(IDLE, 0, 0),
+        Answer::None => said_as(NONE, 0, 0),
+        Answer::Overload => said_as(OVERLOAD, 0, 0),
+        Answer::Beyond => said_as(BEYOND, 0, 0),
+        Answer::Read(session) => said_as(READ, session as u64, 0),
+        Answer::Value(t) => value_said(t),
+        Answer::Size(n) => said_as(VALUE, n, 0),
+        Answer::Buffer(session, size) => said_as(BUFFER, session as u64, size),
+        Answer::Refused(told) => said_as(REFUSED, told.number as u64, told.place as u64),
+    }
+}
+
+// A time may be below zero.
+fn value_said(t: i64) -> Said {
+    if t < 0 {
+        return said_as(BELOW, magnitude(t), 0);
+    }
+    said_as(VALUE, magnitude(t), 0)
+}
+
+fn magnitude(t: i64) -> u64 {
+    if t < 0 {
+        let below = (-1 - t) as u64;
+        return below + 1;
+    }
+    t as u64
+}
+
+pub(crate) fn tell_answer(answer: Answer) -> bool {
+    let said = said_of(answer);
+    tell(said.form, said.a, said.b, 0, 0)
 }
 
 // The number of a refusal and its place; zeros for none.
@@ -48,17 +185,90 @@ pub(crate) fn told_of(check: Check) -> Told {
     why.told()
 }
 
-// ---- lists of sixteen
-
-// The first n with commas between, or a dash; and a word where one behind them is not zero.
-pub(crate) fn put_list(out: &mut [u8], at: usize, n: usize, list: [u64; 16]) -> usize {
-    let at = put_first(out, at, n, &list);
-    put_rest(out, at, n, &list)
+pub(crate) fn alike(a: Told, b: Told) -> bool {
+    a.number == b.number && a.place == b.place
 }
 
-// Nothing, where all are zero.
-pub(crate) fn put_zeros(out: &mut [u8], at: usize, list: [u64; 16]) -> usize {
-    put_rest(out, at, 0, &list)
+pub(crate) fn answer_of(told: Told) -> Answer {
+    if told.number == 0 {
+        return Answer::Granted;
+    }
+    Answer::Refused(told)
+}
+
+// ---- what is not as it must be: a bit for each word from `FAULTS` on
+
+pub(crate) const BESIDE: u64 = 1;
+
+pub(crate) const CHANGED: u64 = 2;
+
+pub(crate) const DIFFERS: u64 = 4;
+
+pub(crate) const GRANTED: u64 = 8;
+
+pub(crate) const NOTE: u64 = 16;
+
+pub(crate) const DENIED: u64 = 32;
+
+pub(crate) const UNLIKE: u64 = 64;
+
+// The bit, where something is not as it must be.
+pub(crate) fn unless(right: bool, bit: u64) -> u64 {
+    if right {
+        return 0;
+    }
+    bit
+}
+
+// A word for each fault, and the end of the line.
+pub(crate) fn end(faults: u64) -> bool {
+    let mut out = [0u8; 64];
+    let at = put_faults(&mut out, faults);
+    said(&out, at)
+}
+
+fn put_faults(out: &mut [u8], faults: u64) -> usize {
+    let mut next = 0;
+    let mut left = faults;
+    let mut k = 0;
+    while k < 7 {
+        next = put_said(
+            out,
+            next,
+            either(left % 2 == 1, FAULTS + k, NOTHING),
+            0,
+            0,
+            0,
+            0,
+        );
+        left = left / 2;
+        k += 1;
+    }
+    put_said(out, next, NEWLINE, 0, 0, 0, 0)
+}
+
+// ---- lists of sixteen
+
+// Lists from `first` on and below `end`, each after its form: the first n of each.
+pub(crate) fn put_lists(
+    out: &mut [u8],
+    at: usize,
+    form: usize,
+    first: usize,
+    end: usize,
+    n: usize,
+    lists: &[u64],
+) -> usize
+    requires { ⌜ (form ≤ 64) × (end ≤ 5) ⌝ }
+{
+    let mut next = at;
+    let mut k = first;
+    while k < end {
+        next = put_said(out, next, form + k, 0, 0, 0, 0);
+        next = put_list(out, next, 16 * k, n, lists);
+        k += 1;
+    }
+    next
 }
 
 pub(crate) fn at_most(n: usize, most: usize) -> usize
@@ -70,103 +280,63 @@ pub(crate) fn at_most(n: usize, most: usize) -> usize
     n
 }
 
-// Those that there are, of the first n.
-pub(crate) fn put_first(out: &mut [u8], at: usize, n: usize, list: &[u64]) -> usize {
-    put_forms(
+// The n from a place on, sixteen at most, with commas between, or a dash.
+fn put_list(out: &mut [u8], at: usize, from: usize, n: usize, lists: &[u64]) -> usize {
+    if lists.len() < from || n == 0 {
+        return put_said(out, at, DASH, 0, 0, 0, 0);
+    }
+    put_first(
         out,
         at,
         b"#,#,#,#,#,#,#,#,#,#,#,#,#,#,#,#",
         at_most(n, 16),
-        list,
+        &lists[from..],
     )
 }
 
 // The form is for sixteen: the first n of them.
-fn put_forms(out: &mut [u8], at: usize, form: &[u8], n: usize, list: &[u64]) -> usize
+fn put_first(out: &mut [u8], at: usize, form: &[u8], n: usize, list: &[u64]) -> usize
     requires { ⌜ n ≤ 16 ⌝ }
 {
-    if n == 0 {
-        return put_word(out, at, b"-");
+    if form.len() < 2 * n {
+        return put_form(out, at, form, list);
     }
-    let end = 2 * n - 1;
-    if form.len() < end {
+    if n == 0 {
         return at;
     }
-    put_form(out, at, &form[0..end], list)
+    put_form(out, at, &form[0..2 * n - 1], list)
 }
 
-// From place n on each is zero: a word where one is not.
-fn put_rest(out: &mut [u8], at: usize, n: usize, list: &[u64]) -> usize {
-    let mut i = n;
-    while i < list.len() {
-        if list[i] != 0 {
-            return put_word(out, at, b" beside");
+// Whether all behind the first n of each list are zero.
+pub(crate) fn zeros_from(n: usize, lists: &[u64]) -> bool {
+    let mut k = 0;
+    while k < lists.len() {
+        if n <= k % 16 && lists[k] != 0 {
+            return false;
         }
-        i += 1;
+        k += 1;
     }
-    at
+    true
 }
 
-// ---- a show, as a script gives it
+// ---- a show, as a script gives it, and bytes
 
-pub(crate) fn put_show(out: &mut [u8], at: usize, show: Show) -> usize {
-    let head = [
-        show.drive.block as u64,
-        show.drive.cylinder as u64,
-        show.laid as u64,
-        show.playing as u64,
-    ];
-    let at = put_form(out, at, b"#,#,#,#", &head);
-    let layouts = show.layouts;
-    let at = put_layouts(out, at, layouts);
-    let sessions = show.sessions;
-    put_sessions(out, at, sessions)
+pub(crate) fn tell_show(show: Show) -> bool {
+    let mut out = [0u8; 2048];
+    let numbers = numbers_of(show);
+    let at = put_form(
+        &mut out,
+        0,
+        b"#,#,#,#;#,#,#,#;#,#,#,#;#,#,#,#;#,#,#,#;#,#,#,#;#,#,#,#;#,#,#,#;#,#,#,#;#,#,#,#;#,#,#,#;#,#,#,#;#,#,#,#;\
+          #,#,#,#;#,#,#,#;#,#,#,#;#,#,#,#;#,#,#,#;#,#,#,#;#,#,#,#;#,#,#,#;#,#,#,#;#,#,#,#;#,#,#,#;#,#,#,#",
+        &numbers,
+    );
+    said(&out, at)
 }
 
-fn put_layouts(out: &mut [u8], at: usize, layouts: [Layout; 8]) -> usize {
-    let mut next = at;
-    let mut i = 0;
-    while i < 8 {
-        next = put_layout(out, next, layouts[i]);
-        i += 1;
-    }
-    next
-}
-
-fn put_layout(out: &mut [u8], at: usize, y: Layout) -> usize {
-    put_form(
-        out,
-        at,
-        b";#,#,#,#",
-        &[
-            y.longest as u64,
-            y.track as u64,
-            y.time as u64,
-            y.rotation as u64,
-        ],
-    )
-}
-
-fn put_sessions(out: &mut [u8], at: usize, sessions: [Session; 16]) -> usize {
-    let mut next = at;
-    let mut i = 0;
-    while i < 16 {
-        next = put_session(out, next, sessions[i]);
-        i += 1;
-    }
-    next
-}
-
-fn put_session(out: &mut [u8], at: usize, x: Session) -> usize {
-    put_form(
-        out,
-        at,
-        b";#,#,#,#",
-        &[
-            x.rate as u64,
-            x.cushion as u64,
-            x.buffer as u64,
-            x.layout as u64,
-        ],
-    )
+// In hex, a dash for none: as many as a buffer that a script lends.
+pub(crate) fn tell_bytes(bytes: &[u8]) -> bool {
+    let mut out = [0u8; 2 * BYTES];
+    let at = put_hex(&mut out, 0, bytes);
+    said(&out, at)
 }

@@ -1,20 +1,14 @@
 // What a line asks for. The words of a line have one space between.
-use crate::fields::Field;
-use crate::fields::field_of;
-use crate::fields::single_of;
+use crate::answers::at_most;
 use crate::given::are_counts;
-use crate::given::are_takes;
 use crate::given::is_hex;
 use crate::given::is_note;
+use crate::given::is_number;
 use crate::given::is_show;
-use parse::Number;
-use parse::decimal;
+use crate::given::number_from_end;
 use parse::part;
 use parse::parts;
 use parse::place_in;
-use parse::same;
-
-const WORD_MOST: u64 = 4_294_967_295;
 
 // `Malformed` is a line that is none of these.
 pub(crate) enum Word {
@@ -48,53 +42,105 @@ pub(crate) enum Word {
     Player,
 }
 
-// The session or place, the number, and the field of a poke; zeros where the line has none.
+// The last number of the line and the one before it, 2^32 where there is none; and the field of a poke.
 pub(crate) struct Asked {
     pub word: Word,
     pub index: usize,
     pub value: u64,
-    pub field: Field,
+    pub field: usize,
 }
 
-fn plain(word: Word) -> Asked {
-    Asked {
-        word,
-        index: 0,
-        value: 0,
-        field: Field::Unknown,
-    }
-}
+// The place of `poke` among the words, and how many fields there are.
+const POKE: usize = 26;
 
-fn malformed() -> Asked {
-    plain(Word::Malformed)
-}
-
-fn when(good: bool, word: Word) -> Asked {
-    if good {
-        return plain(word);
-    }
-    malformed()
-}
+const FIELDS: usize = 21;
 
 pub(crate) fn asked_of(line: &[u8]) -> Asked {
-    let first = part(line, b' ', 0);
-    let second = part(line, b' ', 1);
-    let third = part(line, b' ', 2);
-    match parts(line, b' ') {
-        1 => plain(alone(first)),
-        2 => with_one(first, second),
-        3 => with_two(first, second, third),
-        4 => with_three(first, second, third, part(line, b' ', 3)),
-        10 => when(same(first, b"player") && are_takes(line), Word::Player),
-        _ => malformed(),
+    let word = place_in(
+        b"choose slack start save back open junk end decide why load pass finish workahead case policy memory try \
+          show file report explain take worst write player poke",
+        part(line, b' ', 0),
+    );
+    let field = place_in(
+        b"started place left under A N lc sc l.far l.one l.blk l.rot s.R s.Y s.B s.lay M P G C O",
+        part(line, b' ', 1),
+    );
+    Asked {
+        word: word_at(judged(line, word, field)),
+        index: number_from_end(line, 2) as usize,
+        value: number_from_end(line, 1),
+        field,
     }
 }
 
-fn alone(word: &[u8]) -> Word {
-    match place_in(
-        b"choose slack start save back open junk end decide why load",
-        word,
-    ) {
+// The place of the word, or one that no word has, where the line is not of its form.
+fn judged(line: &[u8], word: usize, field: usize) -> usize {
+    if are_kinds(line, form_at(word, field)) {
+        return word;
+    }
+    POKE + 1
+}
+
+// The place of a line's form: after those of the words stand those of the fields that are poked.
+fn form_at(word: usize, field: usize) -> usize {
+    if word < POKE {
+        return word;
+    }
+    if POKE < word {
+        return POKE + FIELDS;
+    }
+    POKE + at_most(field, FIELDS)
+}
+
+// A form has a letter for each word of its line.
+fn are_kinds(line: &[u8], form: usize) -> bool {
+    let kinds = part(
+        b". . . . . . . . . . . .l .l .l .a .f .m .c .h .h .h .h .ll .lw .nr .lllwwwwbl \
+          ..b ..w ..w ..u ..w ..w ..w ..w ..ew ..ew ..ew ..ew ..iw ..iw ..iw ..iw ..iw ..il ..il ..il ..iw",
+        b' ',
+        form,
+    );
+    let n = parts(line, b' ');
+    let mut k = 0;
+    while k < n && k < kinds.len() {
+        if !is_kind(part(line, b' ', k), kinds[k]) {
+            return false;
+        }
+        k += 1;
+    }
+    n == kinds.len()
+}
+
+// `.` any word, `a` a name, `f` the policy, `c` counts, `h` hex, `m` a show in memory, `n` a note, `u` a read under way; others are numbers.
+fn is_kind(text: &[u8], kind: u8) -> bool {
+    let known = place_in(b"fixed -1 -", text);
+    match kind {
+        b'.' => true,
+        b'a' => text.len() != 0,
+        b'f' => known == 0,
+        b'c' => known == 2 || are_counts(text),
+        b'h' => known == 2 || is_hex(text),
+        b'm' => is_show(text),
+        b'n' => known == 2 || is_note(text),
+        b'u' => known == 1 || is_number(text, most(kind)),
+        _ => is_number(text, most(kind)),
+    }
+}
+
+// `b` yes or no, `e` a layout, `i` a session, `r` the room of a buffer, `u`, `w` 32 bits, `l` 64 bits.
+fn most(kind: u8) -> u64 {
+    match kind {
+        b'b' => 1,
+        b'e' => 7,
+        b'i' => 15,
+        b'r' => 4096,
+        b'u' | b'w' => 4_294_967_295,
+        _ => u64::MAX,
+    }
+}
+
+fn word_at(place: usize) -> Word {
+    match place {
         0 => Word::Choose,
         1 => Word::Slack,
         2 => Word::Start,
@@ -106,91 +152,22 @@ fn alone(word: &[u8]) -> Word {
         8 => Word::Decide,
         9 => Word::Why,
         10 => Word::Load,
+        11 => Word::Pass,
+        12 => Word::Finish,
+        13 => Word::Workahead,
+        14 => Word::Case,
+        15 => Word::Policy,
+        16 => Word::Memory,
+        17 => Word::Try,
+        18 => Word::Show,
+        19 => Word::File,
+        20 => Word::Report,
+        21 => Word::Explain,
+        22 => Word::Take,
+        23 => Word::Worst,
+        24 => Word::Write,
+        25 => Word::Player,
+        26 => Word::Poke,
         _ => Word::Malformed,
     }
-}
-
-fn with_one(word: &[u8], operand: &[u8]) -> Asked {
-    match place_in(b"pass finish workahead case policy memory try", word) {
-        0 => numbered(Word::Pass, Field::Unknown, b"0", operand),
-        1 => numbered(Word::Finish, Field::Unknown, b"0", operand),
-        2 => numbered(Word::Workahead, Field::Unknown, operand, b"0"),
-        3 => when(operand.len() != 0, Word::Case),
-        4 => when(same(operand, b"fixed"), Word::Policy),
-        5 => when(is_show(operand), Word::Memory),
-        6 => when(are_counts(operand), Word::Try),
-        _ => with_file(word, operand),
-    }
-}
-
-fn with_file(word: &[u8], hex: &[u8]) -> Asked {
-    let good = is_hex(hex);
-    match place_in(b"show file report explain", word) {
-        0 => when(good, Word::Show),
-        1 => when(good, Word::File),
-        2 => when(good, Word::Report),
-        3 => when(good, Word::Explain),
-        _ => malformed(),
-    }
-}
-
-fn with_two(word: &[u8], second: &[u8], third: &[u8]) -> Asked {
-    match place_in(b"take poke worst write", word) {
-        0 => numbered(Word::Take, Field::Unknown, second, third),
-        1 => single_poke(second, third),
-        2 => below(
-            WORD_MOST,
-            numbered(Word::Worst, Field::Unknown, second, third),
-        ),
-        3 => written(second, third),
-        _ => malformed(),
-    }
-}
-
-fn with_three(word: &[u8], second: &[u8], third: &[u8], fourth: &[u8]) -> Asked {
-    if same(word, b"poke") {
-        return numbered(Word::Poke, field_of(second), third, fourth);
-    }
-    malformed()
-}
-
-fn numbered(word: Word, field: Field, place: &[u8], operand: &[u8]) -> Asked {
-    let Number::Is(index) = decimal(place) else {
-        return malformed();
-    };
-    let Number::Is(value) = decimal(operand) else {
-        return malformed();
-    };
-    Asked {
-        word,
-        index: index as usize,
-        value,
-        field,
-    }
-}
-
-// The value is at most that.
-fn below(most: u64, asked: Asked) -> Asked {
-    if most < asked.value {
-        return malformed();
-    }
-    asked
-}
-
-// Of a read under way -1 means nothing.
-fn single_poke(name: &[u8], operand: &[u8]) -> Asked {
-    if same(name, b"under") {
-        if same(operand, b"-1") {
-            return numbered(Word::Poke, Field::Nothing, b"0", b"0");
-        }
-    }
-    numbered(Word::Poke, single_of(name), b"0", operand)
-}
-
-// The value is the room of the buffer that is lent.
-fn written(note: &[u8], room: &[u8]) -> Asked {
-    if is_note(note) {
-        return below(4096, numbered(Word::Write, Field::Unknown, b"0", room));
-    }
-    malformed()
 }

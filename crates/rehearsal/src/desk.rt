@@ -1,16 +1,20 @@
 // The desk that a script is rehearsed at: what there is so far, and what each line makes of it.
+use crate::answers::ERROR;
+use crate::answers::end;
+use crate::answers::tell;
+use crate::answers::tell_answer;
 use crate::answers::told_of;
 use crate::asked::Asked;
 use crate::asked::Word;
 use crate::asked::asked_of;
-use crate::calls::Answer;
-use crate::calls::answer_told;
+use crate::calls::Called;
 use crate::calls::call;
+use crate::calls::opened;
 use crate::fields::poke;
 use crate::given::memory_of;
-use crate::output::said;
 use crate::output::say;
-use crate::questions::answer;
+use crate::questions::about_show;
+use crate::questions::long_answer;
 use crate::record::record;
 use crate::shows::file_of;
 use crate::shows::junked;
@@ -22,7 +26,6 @@ use show::Show;
 use show::refusal::Check;
 use show::refusal::Told;
 use showfile::Reading;
-use text::put_numbered;
 
 // A longer line is malformed.
 const LINE_MOST: usize = 65_535;
@@ -59,10 +62,7 @@ impl Desk {
             shown: false,
             opened: false,
             saved: false,
-            refused: Told {
-                number: 0,
-                place: 0,
-            },
+            refused: told_of(Check::Within),
             show,
             run,
             kept: run,
@@ -70,20 +70,35 @@ impl Desk {
     }
 
     // Nothing is kept of the last case.
-    fn cleared(self) -> Desk {
+    fn cleared(self, begun: bool, failed: bool) -> Desk {
         let mut desk = self;
-        desk.begun = false;
-        desk.failed = false;
+        desk.begun = begun;
+        desk.failed = failed;
         desk.shown = false;
         desk.opened = false;
         desk.saved = false;
         desk
     }
 
-    fn with_run(self, run: Run) -> Desk {
+    fn with_show(self, show: Show, refused: Told) -> Desk {
         let mut desk = self;
-        desk.opened = true;
+        desk.shown = true;
+        desk.show = show;
+        desk.refused = refused;
+        desk
+    }
+
+    fn with_run(self, run: Run, opened: bool) -> Desk {
+        let mut desk = self;
+        desk.opened = opened;
         desk.run = run;
+        desk
+    }
+
+    fn with_kept(self, run: Run) -> Desk {
+        let mut desk = self;
+        desk.saved = true;
+        desk.kept = run;
         desk
     }
 
@@ -136,140 +151,77 @@ pub(crate) fn line(bytes: &[u8], desk: Desk) -> Desk {
 fn judged(bytes: &[u8], asked: Asked, desk: Desk) -> Desk {
     let word = asked.word;
     if LINE_MOST < bytes.len() || !desk.allows(word) {
-        return malformed(desk);
+        let mut next = desk.cleared(false, true);
+        next.lost = !tell(ERROR, desk.lines, 0, 0, 0);
+        return next;
     }
     match word {
-        Word::Poke => poked(bytes, asked, desk),
-        Word::Open => opened(bytes, desk),
         Word::Pass
         | Word::Take
         | Word::Choose
         | Word::Finish
         | Word::Workahead
         | Word::Slack
-        | Word::Start => called(bytes, asked, desk),
-        Word::Decide | Word::Why | Word::Load | Word::Worst | Word::Try | Word::Write =>
-            asked_about(bytes, asked, desk),
-        Word::File | Word::Report | Word::Explain | Word::Player => asked_about(bytes, asked, desk),
-        _ => noted(bytes, word, desk),
+        | Word::Start => called(bytes, call(asked, desk.run), desk),
+        Word::Open => called(bytes, opened(desk.show, desk.refused), desk),
+        _ => noted(bytes, asked, desk),
     }
 }
 
-fn malformed(desk: Desk) -> Desk {
-    let mut next = desk.cleared();
-    next.failed = true;
-    let mut out = [0u8; 32];
-    let n = put_numbered(&mut out, 0, b"error ", desk.lines, b"\n");
-    next.lost = !said(&out, n);
+// A call, and the record after it, if there is one.
+fn called(bytes: &[u8], called: Called, desk: Desk) -> Desk {
+    let answer = called.answer;
+    let run = called.run;
+    let mut next = desk.with_run(run, called.opened);
+    next.lost = !(say(bytes) && tell_answer(answer) && end(0) && record(run, called.opened));
     next
-}
-
-fn again(bytes: &[u8]) -> bool {
-    say(bytes) && say(b"\n")
 }
 
 // ---- lines that are no calls
 
-fn noted(bytes: &[u8], word: Word, desk: Desk) -> Desk {
-    let mut next = after(bytes, word, desk);
-    next.lost = !again(bytes);
+fn noted(bytes: &[u8], asked: Asked, desk: Desk) -> Desk {
+    let mut next = after(bytes, asked, desk);
+    next.lost = !(say(bytes) && answered(bytes, asked, desk));
     next
 }
 
-fn after(bytes: &[u8], word: Word, desk: Desk) -> Desk {
-    let mut next = desk;
+// A question's answer; any other line just ends.
+fn answered(bytes: &[u8], asked: Asked, desk: Desk) -> bool {
+    let word = asked.word;
+    let refused = desk.refused;
     match word {
-        Word::Case => {
-            next = desk.cleared();
-            next.begun = true;
-            next
-        }
-        Word::End => desk.cleared(),
-        Word::Show => shown(file_of(part(bytes, b' ', 1)), desk),
-        Word::Memory => with_show(memory_of(part(bytes, b' ', 1)), desk),
-        Word::Junk => {
-            let show = junked(desk.show);
-            next.show = show;
-            next
-        }
-        Word::Save => {
-            let run = desk.run;
-            next.kept = run;
-            next.saved = true;
-            next
-        }
-        Word::Back => desk.with_run(desk.kept),
+        Word::Decide | Word::Why | Word::Load | Word::Worst | Word::Try | Word::Write => about_show(
+            bytes,
+            asked,
+            desk.show,
+            refused,
+        ),
+        Word::File | Word::Report | Word::Explain | Word::Player => long_answer(
+            bytes,
+            asked,
+            desk.show,
+        ),
+        _ => end(0),
+    }
+}
+
+fn after(bytes: &[u8], asked: Asked, desk: Desk) -> Desk {
+    let word = asked.word;
+    let operand = part(bytes, b' ', 1);
+    match word {
+        Word::Case => desk.cleared(true, false),
+        Word::End => desk.cleared(false, false),
+        Word::Show => shown(file_of(operand), desk),
+        Word::Memory => desk.with_show(memory_of(operand), told_of(Check::Within)),
+        Word::Junk => desk.with_show(junked(desk.show), desk.refused),
+        Word::Poke => desk.with_run(poke(desk.run, asked.field, asked.index, asked.value), true),
+        Word::Save => desk.with_kept(desk.run),
+        Word::Back => desk.with_run(desk.kept, true),
         _ => desk,
     }
 }
 
 fn shown(reading: Reading, desk: Desk) -> Desk {
     let check = reading.check;
-    let mut next = with_show(reading.show, desk);
-    next.refused = told_of(check);
-    next
-}
-
-fn with_show(show: Show, desk: Desk) -> Desk {
-    let mut next = desk;
-    next.shown = true;
-    next.show = show;
-    next.refused = told_of(Check::Within);
-    next
-}
-
-fn poked(bytes: &[u8], asked: Asked, desk: Desk) -> Desk {
-    let field = asked.field;
-    let poked = poke(desk.run, field, asked.index, asked.value);
-    if !poked.known {
-        return malformed(desk);
-    }
-    let mut next = desk.with_run(poked.run);
-    next.lost = !again(bytes);
-    next
-}
-
-// ---- questions
-
-fn asked_about(bytes: &[u8], asked: Asked, desk: Desk) -> Desk {
-    let refused = desk.refused;
-    let told = say(bytes) && answer(bytes, asked, desk.show, refused);
-    let mut next = desk;
-    next.lost = !told;
-    next
-}
-
-// ---- calls
-
-fn called(bytes: &[u8], asked: Asked, desk: Desk) -> Desk {
-    let called = call(asked, desk.run);
-    let answer = called.answer;
-    let run = called.run;
-    let mut next = desk.with_run(run);
-    next.lost = !(say(bytes) && answer_told(answer) && record(run));
-    next
-}
-
-// Refused, there is no record.
-fn opened(bytes: &[u8], desk: Desk) -> Desk {
-    let opened = run::open(desk.show);
-    let check = opened.check;
-    let run = opened.run;
-    let told = refusal_of(desk.refused, check);
-    let mut next = desk.with_run(run);
-    if told.number != 0 {
-        next.opened = false;
-        next.lost = !(say(bytes) && answer_told(Answer::Refused(told)));
-        return next;
-    }
-    next.lost = !(say(bytes) && answer_told(Answer::Granted) && record(run));
-    next
-}
-
-// A file that was refused is not opened: what reading it said stands.
-fn refusal_of(read: Told, check: Check) -> Told {
-    if read.number != 0 {
-        return read;
-    }
-    told_of(check)
+    desk.with_show(reading.show, told_of(check))
 }

@@ -1,22 +1,35 @@
 // Files that are read and written again, and shows that are written and read again, with every byte of the buffer that is lent.
-use crate::answers::put_refusal;
-use crate::answers::put_show;
-use crate::answers::put_unless;
+ghost use Prim.Native.Nat.{_≤_};
+ghost use lib.ListN.{length};
+use crate::answers::Answer;
+use crate::answers::CHANGED;
+use crate::answers::CONTENTS;
+use crate::answers::COPIED;
+use crate::answers::DIFFERENT;
+use crate::answers::LENGTH;
+use crate::answers::NOTE;
+use crate::answers::REREAD;
+use crate::answers::SPACE;
+use crate::answers::UNLIKE;
+use crate::answers::WROTE;
+use crate::answers::alike;
+use crate::answers::at_most;
+use crate::answers::either;
+use crate::answers::end;
+use crate::answers::tell;
+use crate::answers::tell_answer;
+use crate::answers::tell_bytes;
+use crate::answers::tell_show;
 use crate::answers::told_of;
+use crate::answers::unless;
 use crate::given::BYTES;
 use crate::given::bytes_of;
 use parse::same;
 use show::Show;
-use show::refusal::Check;
-use show::refusal::Refusal;
 use show::refusal::Told;
-use showfile::Written;
 use showfile_write::copy;
 use showfile_write::reread;
 use showfile_write::write;
-use text::form::put_form;
-use text::hex::put_hex;
-use text::put_word;
 
 // ---- a buffer that is lent
 
@@ -47,158 +60,122 @@ fn before(i: usize) -> u8 {
 
 // ---- a file
 
-pub(crate) fn put_file(out: &mut [u8], at: usize, hex: &[u8]) -> usize {
+pub(crate) fn tell_file(hex: &[u8]) -> bool {
     let mut file = [0u8; BYTES];
-    let mut buffer = [0u8; BYTES];
-    put_given(out, at, hex, &mut file, &mut buffer)
+    let n = bytes_of(hex, &mut file);
+    tell_read(&file[0..n])
 }
 
-// Copies go into as much of the buffer as the file has bytes.
-fn put_given(out: &mut [u8], at: usize, hex: &[u8], file: &mut [u8], buffer: &mut [u8]) -> usize {
-    let n = bytes_of(hex, file);
-    if buffer.len() < n {
-        return at;
-    }
-    put_read(out, at, &file[0..n], &mut buffer[0..n])
-}
-
-fn put_read(out: &mut [u8], at: usize, file: &[u8], buffer: &mut [u8]) -> usize {
+fn tell_read(file: &[u8]) -> bool {
     let got = showfile::read(file);
     let check = got.check;
     let show = got.show;
-    if let Check::Refused(why) = check {
-        return put_unread(out, at, why, file, buffer);
+    let told = told_of(check);
+    if told.number != 0 {
+        return tell_answer(Answer::Refused(told)) && end(unread_faults(told, file));
     }
-    let at = put_contents(out, at, show, showfile::note(file));
-    let at = put_copy(out, at, file, buffer);
-    put_short(out, at, file, buffer)
+    tell(CONTENTS, 0, 0, 0, 0) && tell_show(show) && tell_rest(file)
 }
 
-fn put_contents(out: &mut [u8], at: usize, show: Show, note: &[u8]) -> usize {
-    let at = put_word(out, at, b"read ");
-    let at = put_show(out, at, show);
-    let at = put_word(out, at, b" ");
-    put_hex(out, at, note)
+fn tell_rest(file: &[u8]) -> bool {
+    tell(SPACE, 0, 0, 0, 0) && tell_bytes(showfile::note(file)) && tell_copies(file)
 }
 
-// A refused file has no note and is not copied either: of these nothing is put, unless they are wrong.
-fn put_unread(out: &mut [u8], at: usize, why: Refusal, file: &[u8], buffer: &mut [u8]) -> usize {
-    let at = put_refusal(out, at, why);
+// A refused file has no note and is not copied either.
+fn unread_faults(told: Told, file: &[u8]) -> u64 {
     let note = showfile::note(file);
-    let at = put_unless(out, at, note.len() == 0, b" note");
-    let wrote = copied(file, buffer);
-    let second = wrote.check;
-    let at = put_unlike(out, at, why, second);
-    put_unless(out, at, filled(buffer, 0), b" changed")
+    let second = copied(file, file.len());
+    unless(note.len() == 0, NOTE)
+        | unless(alike(told, second.told), UNLIKE)
+        | unless(second.kept, CHANGED)
 }
 
-// The file written again, into a buffer of its length.
-fn put_copy(out: &mut [u8], at: usize, file: &[u8], buffer: &mut [u8]) -> usize {
-    let wrote = copied(file, buffer);
-    let at = put_form(out, at, b" copy #", &[wrote.len as u64]);
-    if same(buffer, file) {
-        return put_word(out, at, b" same");
+// The file written again into a buffer of its length, and into one that is a byte shorter: this must be refused, and change nothing.
+fn tell_copies(file: &[u8]) -> bool {
+    let whole = copied(file, file.len());
+    let short = copied(file, less(file.len()));
+    let told = short.told;
+    let form = either(whole.same, COPIED, DIFFERENT);
+    tell(
+        form,
+        whole.len as u64,
+        told.number as u64,
+        told.place as u64,
+        0,
+    )
+        && end(unless(short.kept, CHANGED))
+}
+
+fn less(n: usize) -> usize {
+    if n == 0 {
+        return 0;
     }
-    put_word(out, at, b" differs")
+    n - 1
 }
 
-fn copied(file: &[u8], buffer: &mut [u8]) -> Written {
+// What a copy into so much of a buffer was answered, whether it is the same as the file, and whether no byte was changed.
+struct Copying {
+    len: usize,
+    told: Told,
+    same: bool,
+    kept: bool,
+}
+
+fn copied(file: &[u8], room: usize) -> Copying {
+    let mut buffer = [0u8; BYTES];
+    copied_in(file, at_most(room, BYTES), &mut buffer)
+}
+
+fn copied_in(file: &[u8], room: usize, buffer: &mut [u8]) -> Copying
+    requires { ⌜ room ≤ length (now buffer) ⌝ }
+{
     fill(buffer);
-    copy(file, buffer)
-}
-
-// And into one that is a byte shorter: this must be refused, and change nothing.
-fn put_short(out: &mut [u8], at: usize, file: &[u8], buffer: &mut [u8]) -> usize {
-    let told = copied_short(file, buffer);
-    let at = put_form(
-        out,
-        at,
-        b" short # #",
-        &[told.number as u64, told.place as u64],
-    );
-    put_unless(out, at, filled(buffer, 0), b" changed")
-}
-
-fn copied_short(file: &[u8], buffer: &mut [u8]) -> Told {
-    fill(buffer);
-    if buffer.len() == 0 {
-        return told_of(Check::Within);
-    }
-    let n = buffer.len() - 1;
-    let wrote = copy(file, &mut buffer[0..n]);
+    let wrote = copy(file, &mut buffer[0..room]);
     let check = wrote.check;
-    told_of(check)
+    Copying {
+        len: wrote.len,
+        told: told_of(check),
+        same: same(&buffer[0..room], file),
+        kept: filled(buffer, 0),
+    }
 }
 
 // ---- a show in memory
 
-pub(crate) fn put_written(out: &mut [u8], at: usize, show: Show, hex: &[u8], room: u64) -> usize {
+pub(crate) fn tell_written(show: Show, hex: &[u8], room: usize) -> bool {
     let mut note = [0u8; BYTES];
     let mut buffer = [0u8; BYTES];
-    put_noted(out, at, show, hex, room as usize, &mut note, &mut buffer)
+    let n = bytes_of(hex, &mut note);
+    let room = at_most(room, BYTES);
+    tell_noted(show, &note[0..n], &mut buffer[0..room])
 }
 
-fn put_noted(
-    out: &mut [u8],
-    at: usize,
-    show: Show,
-    hex: &[u8],
-    room: usize,
-    note: &mut [u8],
-    buffer: &mut [u8],
-) -> usize {
-    let n = bytes_of(hex, note);
-    if buffer.len() < room {
-        return at;
-    }
-    put_write(out, at, show, &note[0..n], &mut buffer[0..room])
-}
-
-fn put_write(out: &mut [u8], at: usize, show: Show, note: &[u8], buffer: &mut [u8]) -> usize {
+fn tell_noted(show: Show, note: &[u8], buffer: &mut [u8]) -> bool {
     fill(buffer);
     let wrote = write(show, note, buffer);
     let check = wrote.check;
-    if let Check::Refused(why) = check {
-        return put_unwritten(out, at, why, show, note, buffer);
+    let told = told_of(check);
+    if told.number != 0 {
+        return tell_unwritten(told, show, note, buffer);
     }
-    let at = put_form(out, at, b"wrote # ", &[wrote.len as u64]);
-    let at = put_hex(out, at, buffer);
-    put_reread(out, at, show, note, buffer)
+    tell(WROTE, wrote.len as u64, 0, 0, 0) && tell_bytes(buffer) && tell_again(show, note, buffer)
 }
 
 // A refused show is not written on the way to being read again either; the buffer is that after both calls.
-fn put_unwritten(
-    out: &mut [u8],
-    at: usize,
-    why: Refusal,
-    show: Show,
-    note: &[u8],
-    buffer: &mut [u8],
-) -> usize {
+fn tell_unwritten(told: Told, show: Show, note: &[u8], buffer: &mut [u8]) -> bool {
     let got = reread(show, note, buffer);
     let second = got.check;
-    let at = put_refusal(out, at, why);
-    let at = put_word(out, at, b" ");
-    let at = put_hex(out, at, buffer);
-    put_unlike(out, at, why, second)
+    let faults = unless(alike(told, told_of(second)), UNLIKE);
+    tell_answer(Answer::Refused(told))
+        && tell(SPACE, 0, 0, 0, 0)
+        && tell_bytes(buffer)
+        && end(faults)
 }
 
 // The show written into a fresh buffer and read again; zeros where that is refused.
-fn put_reread(out: &mut [u8], at: usize, show: Show, note: &[u8], buffer: &mut [u8]) -> usize {
+fn tell_again(show: Show, note: &[u8], buffer: &mut [u8]) -> bool {
     fill(buffer);
     let got = reread(show, note, buffer);
     let again = got.show;
-    let at = put_word(out, at, b" reread ");
-    let at = put_show(out, at, again);
-    put_form(out, at, b" #", &[got.note as u64])
-}
-
-// A word, where a second call is not refused as the first was.
-fn put_unlike(out: &mut [u8], at: usize, why: Refusal, second: Check) -> usize {
-    let first = why.told();
-    let other = told_of(second);
-    if first.number != other.number {
-        return put_word(out, at, b" unlike");
-    }
-    put_unless(out, at, first.place == other.place, b" unlike")
+    tell(REREAD, 0, 0, 0, 0) && tell_show(again) && tell(LENGTH, got.note as u64, 0, 0, 0) && end(0)
 }

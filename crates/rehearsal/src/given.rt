@@ -1,16 +1,14 @@
-// What the words of a line spell: a file, a note, a show in memory, counts, a player's take.
-ghost use Prim.Native.Nat.{_<_, _≤_};
+// What the words of a line spell: a file, a note, numbers, a show in memory, counts, a player's take.
+ghost use Prim.Native.Nat.{_≤_};
 ghost use lib.ListN.{length};
+use crate::shows::show_of;
 use parse::Number;
 use parse::decimal;
 use parse::find;
 use parse::part;
 use parse::parts;
-use parse::same;
 use parse::unhex;
 use run::State;
-use show::Drive;
-use show::Layout;
 use show::Session;
 use show::Show;
 
@@ -20,12 +18,9 @@ pub(crate) const BYTES: usize = 4096;
 // What is no number of 32 bits.
 const NO_WORD: u64 = 4_294_967_296;
 
-// ---- bytes in hex; a dash is none
+// ---- bytes in hex
 
 pub(crate) fn is_hex(text: &[u8]) -> bool {
-    if same(text, b"-") {
-        return true;
-    }
     let mut none = [0u8; 1];
     let Number::Is(_) = unhex(text, &mut none) else {
         return false;
@@ -37,7 +32,7 @@ pub(crate) fn is_note(text: &[u8]) -> bool {
     is_hex(text) && text.len() <= 2 * BYTES
 }
 
-// How many bytes of the buffer they fill.
+// How many bytes of the buffer they fill: none of a dash.
 pub(crate) fn bytes_of(text: &[u8], out: &mut [u8]) -> usize
     ensures { λ r. ⌜ r ≤ length (now (out .exit)) ⌝ }
 {
@@ -52,44 +47,60 @@ pub(crate) fn bytes_of(text: &[u8], out: &mut [u8]) -> usize
 
 // ---- numbers
 
-// The number of 32 bits that the text is, or `NO_WORD`.
-fn word_of(text: &[u8]) -> u64 {
+pub(crate) fn is_number(text: &[u8], most: u64) -> bool {
+    let Number::Is(n) = decimal(text) else {
+        return false;
+    };
+    n <= most
+}
+
+// Where the text is no number, what is none of 32 bits.
+fn number_of(text: &[u8]) -> u64 {
     let Number::Is(n) = decimal(text) else {
         return NO_WORD;
     };
-    if NO_WORD < n {
-        return NO_WORD;
-    }
     n
 }
 
-// ---- a show in memory: a hundred numbers in fours, a semicolon between fours and a comma within
+// That of the last word, where `back` is 1, of the one before it, where it is 2.
+pub(crate) fn number_from_end(line: &[u8], back: usize) -> u64 {
+    let n = parts(line, b' ');
+    if n < back {
+        return NO_WORD;
+    }
+    number_of(part(line, b' ', n - back))
+}
 
-// The numbers, and whether they are all there and nothing else.
-pub(crate) struct Hundred {
+// Its last 32 bits.
+pub(crate) fn low(n: u64) -> u32 {
+    (n % NO_WORD) as u32
+}
+
+// ---- lists of numbers of 32 bits
+
+// The numbers, how many there are, and whether they are all that there is.
+pub(crate) struct Listed {
     pub good: bool,
-    pub numbers: [u32; 100],
+    pub count: usize,
+    pub numbers: [u64; 100],
 }
 
-pub(crate) fn is_show(text: &[u8]) -> bool {
-    let given = hundred_of(text);
-    given.good
-}
-
-fn hundred_of(text: &[u8]) -> Hundred {
-    let mut numbers = [0u32; 100];
+// A hundred at most, with commas between, but for what stands after each fourth.
+fn list_of(text: &[u8], fourth: u8) -> Listed {
+    let mut numbers = [0u64; 100];
     let mut good = true;
     let mut at = 0;
     let mut i = 0;
-    while i < 100 {
-        let item = item_at(text, at, mark(i));
-        numbers[i] = (item.value % NO_WORD) as u32;
+    while i < 100 && at <= text.len() {
+        let item = item_at(text, at, mark(i, fourth));
+        numbers[i] = item.value % NO_WORD;
         good = good && item.value < NO_WORD;
         at = item.next;
         i += 1;
     }
-    Hundred {
+    Listed {
         good: good && text.len() < at,
+        count: i,
         numbers,
     }
 }
@@ -100,194 +111,81 @@ struct Item {
     next: usize,
 }
 
-fn item_at(text: &[u8], at: usize, end: u8) -> Item {
-    if text.len() < at {
-        return Item {
-            value: NO_WORD,
-            next: at,
-        };
-    }
+fn item_at(text: &[u8], at: usize, end: u8) -> Item
+    requires { ⌜ at ≤ length (now text) ⌝ }
+{
     let rest = &text[at..];
     let n = find(rest, end);
     Item {
-        value: word_of(&rest[0..n]),
+        value: number_of(&rest[0..n]),
         next: at + n + 1,
     }
 }
 
 // What ends number i.
-fn mark(i: usize) -> u8 {
+fn mark(i: usize, fourth: u8) -> u8 {
     if i % 4 == 3 {
-        return b';';
+        return fourth;
     }
     b','
 }
 
+// A show in memory: a hundred numbers in fours, a semicolon between fours.
+pub(crate) fn is_show(text: &[u8]) -> bool {
+    let given = list_of(text, b';');
+    given.good && given.count == 100
+}
+
 pub(crate) fn memory_of(text: &[u8]) -> Show {
-    let given = hundred_of(text);
-    let n = given.numbers;
-    Show {
-        drive: Drive {
-            block: n[0],
-            cylinder: n[1],
-        },
-        layouts: layouts_of(n),
-        laid: size(n[2]),
-        sessions: sessions_of(n),
-        playing: size(n[3]),
-    }
+    let given = list_of(text, b';');
+    let numbers = given.numbers;
+    show_of(numbers)
 }
 
-fn size(n: u32) -> usize {
-    n as usize
-}
-
-fn layouts_of(n: [u32; 100]) -> [Layout; 8] {
-    let none = layout_at(n, 0);
-    let mut layouts = [none; 8];
-    let mut i = 1;
-    while i < 8 {
-        layouts[i] = layout_at(n, i);
-        i += 1;
-    }
-    layouts
-}
-
-fn layout_at(n: [u32; 100], i: usize) -> Layout
-    requires { ⌜ i < 8 ⌝ }
-{
-    let at = 4 + 4 * i;
-    Layout {
-        longest: n[at],
-        track: n[at + 1],
-        time: n[at + 2],
-        rotation: n[at + 3],
-    }
-}
-
-fn sessions_of(n: [u32; 100]) -> [Session; 16] {
-    let none = session_at(n, 0);
-    let mut sessions = [none; 16];
-    let mut i = 1;
-    while i < 16 {
-        sessions[i] = session_at(n, i);
-        i += 1;
-    }
-    sessions
-}
-
-fn session_at(n: [u32; 100], i: usize) -> Session
-    requires { ⌜ i < 16 ⌝ }
-{
-    let at = 36 + 4 * i;
-    Session {
-        rate: n[at],
-        cushion: n[at + 1],
-        buffer: n[at + 2],
-        layout: n[at + 3],
-    }
-}
-
-// ---- counts with commas between; a dash is none
-
-// The counts, zeros where none is given, and whether they are counts.
-pub(crate) struct Sixteen {
-    pub good: bool,
-    pub counts: [u32; 16],
-}
-
+// Sixteen counts at most; a dash is none.
 pub(crate) fn are_counts(text: &[u8]) -> bool {
-    let given = counts_of(text);
-    same(text, b"-") || given.good && parts(text, b',') <= 16
+    let given = list_of(text, b',');
+    given.good && given.count <= 16
 }
 
-pub(crate) fn counts_of(text: &[u8]) -> Sixteen {
+// Zeros where none is given.
+pub(crate) fn counts_of(text: &[u8]) -> [u32; 16] {
+    let given = list_of(text, b',');
+    let numbers = given.numbers;
     let mut counts = [0u32; 16];
-    let mut good = true;
     let mut i = 0;
     while i < 16 {
-        let count = count_at(text, i);
-        counts[i] = (count % NO_WORD) as u32;
-        good = good && count < NO_WORD;
+        counts[i] = low(numbers[i]);
         i += 1;
     }
-    Sixteen { good, counts }
-}
-
-fn count_at(text: &[u8], i: usize) -> u64 {
-    if parts(text, b',') <= i {
-        return 0;
-    }
-    word_of(part(text, b',', i))
+    counts
 }
 
 // ---- a player's take: P G C R Y B LAYOUT STARTED N
 
 pub(crate) struct Taking {
-    pub good: bool,
     pub state: State,
     pub session: Session,
     pub started: bool,
     pub bytes: u64,
 }
 
-pub(crate) fn are_takes(line: &[u8]) -> bool {
-    let taking = taking_of(line);
-    taking.good
-}
-
 pub(crate) fn taking_of(line: &[u8]) -> Taking {
     let state = State {
-        put: long_at(line, 1),
-        taken: long_at(line, 2),
-        clock: long_at(line, 3),
+        put: number_from_end(line, 9),
+        taken: number_from_end(line, 8),
+        clock: number_from_end(line, 7),
     };
     let session = Session {
-        rate: word_at(line, 4),
-        cushion: word_at(line, 5),
-        buffer: word_at(line, 6),
-        layout: word_at(line, 7),
+        rate: low(number_from_end(line, 6)),
+        cushion: low(number_from_end(line, 5)),
+        buffer: low(number_from_end(line, 4)),
+        layout: low(number_from_end(line, 3)),
     };
     Taking {
-        good: longs(line) && words(line) && word_at(line, 8) <= 1,
         state,
         session,
-        started: word_at(line, 8) == 1,
-        bytes: long_at(line, 9),
+        started: number_from_end(line, 2) == 1,
+        bytes: number_from_end(line, 1),
     }
-}
-
-// Whether the first three and the last are numbers of 64 bits.
-fn longs(line: &[u8]) -> bool {
-    is_long(line, 1) && is_long(line, 2) && is_long(line, 3) && is_long(line, 9)
-}
-
-fn is_long(line: &[u8], k: usize) -> bool {
-    let Number::Is(_) = decimal(part(line, b' ', k)) else {
-        return false;
-    };
-    true
-}
-
-fn long_at(line: &[u8], k: usize) -> u64 {
-    let Number::Is(n) = decimal(part(line, b' ', k)) else {
-        return 0;
-    };
-    n
-}
-
-// Whether those between are numbers of 32 bits.
-fn words(line: &[u8]) -> bool {
-    let mut k = 4;
-    while k < 9 {
-        if NO_WORD <= word_of(part(line, b' ', k)) {
-            return false;
-        }
-        k += 1;
-    }
-    true
-}
-
-fn word_at(line: &[u8], k: usize) -> u32 {
-    (word_of(part(line, b' ', k)) % NO_WORD) as u32
 }

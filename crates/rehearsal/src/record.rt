@@ -1,55 +1,77 @@
 // The line that tells the whole run record.
-ghost use Prim.Native.Nat.{_<_, _≤_};
+ghost use Prim.Native.Nat.{_<_};
+use crate::answers::CELLS;
+use crate::answers::CYCLE;
+use crate::answers::NAMES;
+use crate::answers::NEWLINE;
+use crate::answers::NO_CELLS;
+use crate::answers::NOTHING;
 use crate::answers::at_most;
-use crate::answers::put_first;
-use crate::answers::put_unless;
+use crate::answers::either;
+use crate::answers::put_lists;
+use crate::answers::put_said;
 use crate::output::said;
-use parse::part;
 use run::Run;
 use run::Underway;
-use text::form::put_form;
-use text::put_numbered;
-use text::put_word;
 
 const PLACES: usize = 16;
 
 // The five lists of a run, one after the other: counts, P, G, C, order.
-const CELLS: usize = 5 * PLACES;
+const LISTED: usize = 5 * PLACES;
 
-pub(crate) fn record(run: Run) -> bool {
+// Nothing, where there is no record.
+pub(crate) fn record(run: Run, opened: bool) -> bool {
+    if !opened {
+        return true;
+    }
     let mut out = [0u8; 4096];
     let values = values_of(run);
+    let used = at_most(run.show.playing, PLACES);
     let at = put_cycle(&mut out, run);
-    let at = put_places(&mut out, at, run.show.playing, &values);
+    let at = put_lists(&mut out, at, NAMES, 0, 5, used, &values);
+    let at = put_unused(&mut out, at, used, &values);
     said(&out, at)
-}
-
-fn put_places(out: &mut [u8], at: usize, playing: usize, values: &[u64]) -> usize {
-    let used = at_most(playing, PLACES);
-    let at = put_used(out, at, used, values);
-    let at = put_unused(out, at, used, values);
-    put_word(out, at, b"\n")
 }
 
 fn put_cycle(out: &mut [u8], run: Run) -> usize {
     let underway = run.underway;
-    let form = b"= started=# place=# left=# under=";
-    let at = put_form(
+    let under = under_of(underway);
+    put_said(
         out,
         0,
-        form,
-        &[run.started as u64, run.place as u64, run.left as u64],
-    );
-    let Underway::Read(session) = underway else {
-        return put_word(out, at, b"-");
-    };
-    put_numbered(out, at, b"", session as u64, b"")
+        CYCLE + under.form,
+        run.started as u64,
+        run.place as u64,
+        run.left as u64,
+        under.session,
+    )
 }
 
-fn values_of(run: Run) -> [u64; CELLS] {
-    let mut values = [0u64; CELLS];
+// Whether a read is under way, and on what session.
+struct Under {
+    form: usize,
+    session: u64,
+}
+
+fn under_of(underway: Underway) -> Under
+    ensures { λ r. ⌜ r .form < 2 ⌝ }
+{
+    match underway {
+        Underway::Nothing => Under {
+            form: 0,
+            session: 0,
+        },
+        Underway::Read(session) => Under {
+            form: 1,
+            session: session as u64,
+        },
+    }
+}
+
+fn values_of(run: Run) -> [u64; LISTED] {
+    let mut values = [0u64; LISTED];
     let mut k = 0;
-    while k < CELLS {
+    while k < LISTED {
         values[k] = value_of(run, k / PLACES, k % PLACES);
         k += 1;
     }
@@ -72,48 +94,25 @@ fn value_of(run: Run, list: usize, i: usize) -> u64
     }
 }
 
-// The used places, list by list.
-fn put_used(out: &mut [u8], at: usize, used: usize, values: &[u64]) -> usize {
-    let mut next = at;
-    let mut list = 0;
-    while list < 5 {
-        next = put_named(out, next, list, used, values);
-        list += 1;
-    }
-    next
-}
-
-fn put_named(out: &mut [u8], at: usize, list: usize, used: usize, values: &[u64]) -> usize
-    requires { ⌜ list < 5 ⌝ }
-{
-    let at = put_word(out, at, part(b" M=; P=; G=; C=; O=", b';', list));
-    let from = PLACES * list;
-    if values.len() < from {
-        return at;
-    }
-    put_first(out, at, used, &values[from..])
-}
-
 // The unused places that are not zero.
 fn put_unused(out: &mut [u8], at: usize, used: usize, values: &[u64]) -> usize {
-    let first = put_word(out, at, b" X=");
-    let mut next = first;
+    let mut next = at;
     let mut k = 0;
-    while k < values.len() {
-        next = put_cell(out, next, used, next == first, k, values[k]);
+    while k < LISTED && k < values.len() {
+        let value = values[k];
+        let form = cell_form(next == at, used, k, value);
+        next = put_said(out, next, form, (k % PLACES) as u64, value, 0, 0);
         k += 1;
     }
-    put_unless(out, next, next != first, b"-")
+    put_said(out, next, either(next == at, NO_CELLS, NEWLINE), 0, 0, 0, 0)
 }
 
-fn put_cell(out: &mut [u8], at: usize, used: usize, first: bool, k: usize, value: u64) -> usize {
-    if k % PLACES < used {
-        return at;
+fn cell_form(first: bool, used: usize, k: usize, value: u64) -> usize
+    requires { ⌜ k < 80 ⌝ }
+{
+    let list = k / PLACES;
+    if k % PLACES < used || value == 0 {
+        return NOTHING;
     }
-    if value == 0 {
-        return at;
-    }
-    let at = put_unless(out, at, first, b",");
-    let at = put_word(out, at, part(b"M P G C O", b' ', k / PLACES));
-    put_form(out, at, b"#:#", &[(k % PLACES) as u64, value])
+    either(first, CELLS + list, CELLS + 5 + list)
 }

@@ -1,66 +1,57 @@
 // The calculator's text of a file, and why it is refused, as one line: each newline is written \n.
 ghost use Prim.Native.Nat.{_≤_};
 ghost use lib.ListN.{length};
-use crate::answers::put_unless;
+use crate::answers::ARROW;
+use crate::answers::BREAK;
+use crate::answers::CHANGED;
+use crate::answers::DENIED;
+use crate::answers::DIFFERS;
+use crate::answers::GRANTED;
+use crate::answers::end;
+use crate::answers::tell;
 use crate::answers::told_of;
+use crate::answers::unless;
 use crate::files::fill;
 use crate::files::filled;
 use crate::given::BYTES;
 use crate::given::bytes_of;
+use crate::output::say;
 use parse::part;
 use parse::parts;
 use parse::same;
 use showfile::Written;
-use text::put_word;
 
 // Longer than any text.
 const LENT: usize = 640;
 
-enum Call {
+pub(crate) enum Call {
     Report,
     Explain,
 }
 
-pub(crate) fn put_report(out: &mut [u8], at: usize, hex: &[u8]) -> usize {
-    put_asked(out, at, Call::Report, hex)
-}
-
-pub(crate) fn put_explanation(out: &mut [u8], at: usize, hex: &[u8]) -> usize {
-    put_asked(out, at, Call::Explain, hex)
-}
-
-fn put_asked(out: &mut [u8], at: usize, call: Call, hex: &[u8]) -> usize {
+pub(crate) fn tell_text(call: Call, hex: &[u8]) -> bool {
     let mut file = [0u8; BYTES];
+    let n = bytes_of(hex, &mut file);
+    tell_asked(call, &file[0..n])
+}
+
+// Asked three times: with a buffer that is a byte too short, which is 16, with a long one, and with one that is just long enough.
+fn tell_asked(call: Call, file: &[u8]) -> bool {
     let mut buffer = [0u8; LENT];
     let mut other = [0u8; LENT];
-    put_given(out, at, call, hex, &mut file, &mut buffer, &mut other)
+    let least = least(call);
+    let short = asked_in(call, file, least - 1, &mut other);
+    let long = asked_in(call, file, LENT, &mut buffer);
+    let just = asked_in(call, file, least, &mut other);
+    let n = long.len;
+    let alike = same(&buffer, &other) && just.len == n;
+    tell(ARROW, 0, 0, 0, 0) && tell_lines(&buffer[0..n]) && end(faults_of(short, long, alike))
 }
 
-fn put_given(
-    out: &mut [u8],
-    at: usize,
-    call: Call,
-    hex: &[u8],
-    file: &mut [u8],
-    buffer: &mut [u8],
-    other: &mut [u8],
-) -> usize {
-    let n = bytes_of(hex, file);
-    put_text(out, at, call, &file[0..n], buffer, other)
-}
-
-fn put_text(
-    out: &mut [u8],
-    at: usize,
-    call: Call,
-    file: &[u8],
-    buffer: &mut [u8],
-    other: &mut [u8],
-) -> usize {
-    let at = put_too_short(out, at, call, file, buffer);
-    let at = put_said(out, at, call, file, buffer);
-    just_enough(call, file, other);
-    put_unless(out, at, same(buffer, other), b" differs")
+fn faults_of(short: Text, long: Text, alike: bool) -> u64 {
+    let refused = unless(short.len == 0 && short.number == 16, GRANTED)
+        | unless(long.number == 0, DENIED);
+    refused | unless(short.kept && long.kept, CHANGED) | unless(alike, DIFFERS)
 }
 
 fn ask(call: Call, file: &[u8], buffer: &mut [u8]) -> Written
@@ -82,54 +73,36 @@ fn least(call: Call) -> usize
     }
 }
 
-// Behind the text every byte is as it was.
-fn put_said(out: &mut [u8], at: usize, call: Call, file: &[u8], buffer: &mut [u8]) -> usize {
+// The length of a text, the number that it was refused with, or 0, and whether every byte behind it is as it was.
+struct Text {
+    len: usize,
+    number: u32,
+    kept: bool,
+}
+
+fn asked_in(call: Call, file: &[u8], room: usize, buffer: &mut [u8]) -> Text
+    requires { ⌜ room ≤ length (now buffer) ⌝ }
+    ensures { λ r. ⌜ r .len ≤ length (now (buffer .exit)) ⌝ }
+{
     fill(buffer);
-    let told = ask(call, file, buffer);
+    let told = ask(call, file, &mut buffer[0..room]);
     let check = told.check;
     let refused = told_of(check);
     let n = told.len;
-    let at = put_lines(out, at, &buffer[0..n]);
-    let at = put_unless(out, at, refused.number == 0, b" refused");
-    put_unless(out, at, filled(buffer, n), b" changed")
+    Text {
+        len: n,
+        number: refused.number,
+        kept: filled(buffer, n),
+    }
 }
 
-fn put_lines(out: &mut [u8], at: usize, text: &[u8]) -> usize {
+fn tell_lines(text: &[u8]) -> bool {
     let n = parts(text, b'\n');
-    let mut next = put_word(out, at, part(text, b'\n', 0));
+    let mut good = say(part(text, b'\n', 0));
     let mut k = 1;
-    while k < n {
-        next = put_word(out, next, b"\\n");
-        next = put_word(out, next, part(text, b'\n', k));
+    while k < n && good {
+        good = tell(BREAK, 0, 0, 0, 0) && say(part(text, b'\n', k));
         k += 1;
     }
-    next
-}
-
-// A buffer that is a byte too short is 16, and as it was. It comes first, so that a word for what is wrong stands before the text.
-fn put_too_short(out: &mut [u8], at: usize, call: Call, file: &[u8], buffer: &mut [u8]) -> usize {
-    let at = put_unless(out, at, too_short(call, file, buffer), b"granted ");
-    put_unless(out, at, filled(buffer, 0), b"changed ")
-}
-
-fn too_short(call: Call, file: &[u8], buffer: &mut [u8]) -> bool {
-    fill(buffer);
-    let n = least(call) - 1;
-    if buffer.len() < n {
-        return false;
-    }
-    let told = ask(call, file, &mut buffer[0..n]);
-    let check = told.check;
-    let refused = told_of(check);
-    told.len == 0 && refused.number == 16
-}
-
-// In a buffer of the least length the same is written, and nothing past it.
-fn just_enough(call: Call, file: &[u8], buffer: &mut [u8]) {
-    let n = least(call);
-    if buffer.len() < n {
-        return;
-    }
-    fill(buffer);
-    ask(call, file, &mut buffer[0..n]);
+    good
 }

@@ -3,13 +3,14 @@ use Prim.Native.Nat.{_-_}
 use borrow.Author.Needs.{needs}
 use Rattle.rehearsal.proofs.given.counts_of.Statement.{statement}
 use Rattle.rehearsal.proofs.given.counts_of.Tie as tie
-use Rattle.rehearsal.proofs.given.count_at.Reads as count-at-reads
+use Rattle.rehearsal.proofs.given.list_of.Reads as list-of-reads
+use Rattle.rehearsal.proofs.given.low.Reads as low-reads
 
 abbrev Inv-loop : tie.InvT-loop
-Inv-loop text counts₀ good₀ i₀ counts good i = Unit {0}
+Inv-loop text numbers counts₀ i₀ counts i = Unit {0}
 
 abbrev μ-loop : tie.MeasureT-loop
-μ-loop text counts₀ good₀ i₀ counts good i = 16 - i
+μ-loop text numbers counts₀ i₀ counts i = 16 - i
 
 pub counts-of-spec : {M : Type 1} → statement M
 counts-of-spec =
@@ -17,9 +18,11 @@ counts-of-spec =
     (tie.spec
     Inv-loop
     μ-loop
-    (λ c. search needs)
     (λ c κs. search needs)
     (λ c. search needs)
+    (λ c. search needs)
+    (λ c. search needs)
+    (λ c κs. search needs)
     (λ c. search needs)
     (λ c. search needs)
     (λ c. search needs)

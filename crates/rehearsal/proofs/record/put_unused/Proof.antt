@@ -5,15 +5,15 @@ use lib.ListN.{length}
 use borrow.Author.Needs.{needs}
 use Rattle.rehearsal.proofs.record.put_unused.Statement.{statement}
 use Rattle.rehearsal.proofs.record.put_unused.Tie as tie
-use Rattle.rehearsal.proofs.answers.put_unless.Reads as put-unless-reads
-use Rattle.rehearsal.proofs.record.put_cell.Reads as put-cell-reads
-use Rattle.text.proofs.put_word.Reads as put-word-reads
+use Rattle.rehearsal.proofs.answers.either.Reads as either-reads
+use Rattle.rehearsal.proofs.answers.put_said.Reads as put-said-reads
+use Rattle.rehearsal.proofs.record.cell_form.Reads as cell-form-reads
 
 abbrev Inv-loop : tie.InvT-loop
-Inv-loop out₀ at used values first next₀ k₀ t9 out next k = length out ≡ length out₀
+Inv-loop out₀ at used values next₀ k₀ out next k = length out ≡ length out₀
 
 abbrev μ-loop : tie.MeasureT-loop
-μ-loop out₀ at used values first next₀ k₀ t9 out next k = length values - k
+μ-loop out₀ at used values next₀ k₀ out next k = 80 - k
 
 pub put-unused-spec : {M : Type 1} → statement M
 put-unused-spec =
@@ -22,15 +22,14 @@ put-unused-spec =
     Inv-loop
     μ-loop
     (λ c. search needs)
+    (λ c. search needs)
+    (λ c. search needs)
+    (λ c κs. search needs)
     (λ c κs. search needs)
     (λ c. search needs)
     (λ c. search needs)
     (λ c. search needs)
     (λ c κs. search needs)
-    (λ c. search needs)
-    (λ c. search needs)
-    (λ c. search needs)
-    (λ c. search needs)
     (λ c κs. search needs)
     (λ c. search needs)
     (λ c. search needs))

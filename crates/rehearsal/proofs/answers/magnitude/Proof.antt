@@ -1,4 +1,4 @@
--- `rehearsal::calls::magnitude` is safe: below zero, -1 - t is 0 or more, and fits. Assumes nothing.
+-- `rehearsal::answers::magnitude` is safe: below zero, -1 - t is 0 or more, and fits. Assumes nothing.
 use Prim.Native.Nat.{ℕ, suc, _+_, _-_, _≤_, _<_}
 use native.Mathlib.Omega.{arith}
 use mathlib.Core.Path.{_≡_}
@@ -11,8 +11,8 @@ use mir.Val.{Fits, SFits}
 use mir.Syntax.{w64}
 use borrow.Author.Tests.{le-ltb, ltb-true}
 use borrow.Author.Needs.{needs}
-use Rattle.rehearsal.proofs.calls.magnitude.Statement.{statement}
-use Rattle.rehearsal.proofs.calls.magnitude.Tie as tie
+use Rattle.rehearsal.proofs.answers.magnitude.Statement.{statement}
+use Rattle.rehearsal.proofs.answers.magnitude.Tie as tie
 
 -- -1 - z of a z below zero
 below : (z : ℤ) → ltZ z (pos 0) ≡ true → negsuc 0 -ℤ z ≡ pos (mag z)

@@ -1,0 +1,40 @@
+-- `show_of` is safe and ends. The measure: the places that are left. Assumes nothing.
+use Prim.Native.Nat.{_-_}
+use borrow.Author.Needs.{needs}
+use Rattle.rehearsal.proofs.shows.show_of.Statement.{statement}
+use Rattle.rehearsal.proofs.shows.show_of.Tie as tie
+use Rattle.rehearsal.proofs.given.low.Reads as low-reads
+use Rattle.rehearsal.proofs.shows.layout_at.Reads as layout-at-reads
+use Rattle.rehearsal.proofs.shows.session_at.Reads as session-at-reads
+use Rattle.show.proofs.Show.nothing.Reads as nothing-reads
+
+abbrev Inv-loop : tie.InvT-loop
+Inv-loop numbers show₀ i₀ show i = Unit {0}
+
+abbrev μ-loop : tie.MeasureT-loop
+μ-loop numbers show₀ i₀ show i = 16 - i
+
+pub show-of-spec : {M : Type 1} → statement M
+show-of-spec =
+    tie.close
+    (tie.spec
+    Inv-loop
+    μ-loop
+    (λ c κs. search needs)
+    (λ c. search needs)
+    (λ c κs. search needs)
+    (λ c. search needs)
+    (λ c κs. search needs)
+    (λ c. search needs)
+    (λ c. search needs)
+    (λ c. search needs)
+    (λ c κs. search needs)
+    (λ c. search needs)
+    (λ c. search needs)
+    (λ c κs. search needs)
+    (λ c. search needs)
+    (λ c. search needs)
+    (λ c. search needs)
+    (λ c. search needs)
+    (λ c. search needs)
+    (λ c. search needs))
