@@ -2,14 +2,13 @@
 use Prim.Native.Nat.{ℕ}
 use mathlib.Core.Path.{_≡_, refl, sym, ap, _∙_}
 use mathlib.Core.List.{List, [], _∷_}
-use mathlib.Core.Logic.{_⊎_, inl, inr}
+use mathlib.Core.Logic.{inl, inr}
 use native.Mathlib.Omega.{arith}
 use lib.IntN.{ℤ, pos, negsuc}
 use lib.ListN.{getD}
 use Rattle.show.specs.declared.refusal.Refusal.{Refusal}
 use Rattle.show.specs.declared.refusal.Refusal.the-variants.{Damaged}
 use Rattle.show.specs.declared.refusal.Check.the-variants as check
-use Rattle.show.specs.Refusals.{numberOf, placeOf}
 use Rattle.show.specs.Outcomes.{Outcome, granted, refusedBy, checkOutcome}
 use Rattle.show.proofs.Refusals.{more, none, every, number-between, told-known}
 use Rattle.cost.specs.declared.worst.Worst.the-variants as worst
@@ -30,7 +29,7 @@ use Rattle.scheduler.specs.declared.Choice.the-variants as choice
 use Rattle.scheduler.specs.Answers.{choiceOutcome}
 use Rattle.standing.specs.declared.Spare.the-variants as spare
 use Rattle.standing.specs.Answers.{spareOutcome}
-use Rattle.promises.specs.Refusals.{OneOf, KnownBy, Known, Numbered}
+use Rattle.promises.specs.Refusals.{KnownBy, Known, Numbered}
 
 -- ---- answers
 
@@ -111,6 +110,6 @@ numbered =
     record {
       number = number-between;
       known = told-known;
-      place = every (λ w. OneOf (6 ∷ 7 ∷ []) (numberOf w) ⊎ (placeOf w ≡ 0)) (search (more, none, inl, inr) depth 60 fits 3000);
+      place = every _ (search (more, none, inl, inr) depth 60 fits 3000);
       answers = known;
     }
