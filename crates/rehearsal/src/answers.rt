@@ -69,13 +69,11 @@ pub(crate) const CELLS: usize = 32;
 
 pub(crate) const NO_CELLS: usize = 42;
 
-const DASH: usize = 43;
+pub(crate) const BREAK: usize = 43;
 
-pub(crate) const BREAK: usize = 44;
+const FAULTS: usize = 44;
 
-const FAULTS: usize = 45;
-
-pub(crate) const NOTHING: usize = 52;
+pub(crate) const NOTHING: usize = 51;
 
 // A form with up to four numbers.
 pub(crate) fn put_said(
@@ -95,7 +93,7 @@ pub(crate) fn put_said(
         | -> buffer # #| -> refused # #| -> accepted #| -> holds #| -> fails #| # # #| -> read | copy # same short # #\
         | copy # differs short # #| -> wrote # | reread | #| | |= started=# place=# left=# under=-\
         |= started=# place=# left=# under=#| M=| P=| G=| C=| O=| X=M#:#| X=P#:#| X=G#:#| X=C#:#| X=O#:#\
-        |,M#:#|,P#:#|,G#:#|,C#:#|,O#:#| X=-\n|-|\\n| beside| changed| differs\
+        |,M#:#|,P#:#|,G#:#|,C#:#|,O#:#| X=-\n|\\n| beside| changed| differs\
         | granted| note| refused| unlike";
     put_form(out, at, part(forms, b'|', form), &[a, b, c, d])
 }
@@ -282,29 +280,14 @@ pub(crate) fn at_most(n: usize, most: usize) -> usize
 
 // The n from a place on, sixteen at most, with commas between, or a dash.
 fn put_list(out: &mut [u8], at: usize, from: usize, n: usize, lists: &[u64]) -> usize {
-    if lists.len() < from || n == 0 {
-        return put_said(out, at, DASH, 0, 0, 0, 0);
-    }
-    put_first(
-        out,
-        at,
-        b"#,#,#,#,#,#,#,#,#,#,#,#,#,#,#,#",
-        at_most(n, 16),
-        &lists[from..],
-    )
-}
-
-// The form is for sixteen: the first n of them.
-fn put_first(out: &mut [u8], at: usize, form: &[u8], n: usize, list: &[u64]) -> usize
-    requires { ⌜ n ≤ 16 ⌝ }
-{
-    if form.len() < 2 * n {
-        return put_form(out, at, form, list);
-    }
-    if n == 0 {
+    if lists.len() < from {
         return at;
     }
-    put_form(out, at, &form[0..2 * n - 1], list)
+    let forms =
+        b"-|#|#,#|#,#,#|#,#,#,#|#,#,#,#,#|#,#,#,#,#,#|#,#,#,#,#,#,#|#,#,#,#,#,#,#,#|#,#,#,#,#,#,#,#,#|#,#,#,#,#,#,#,#,#,#\
+        |#,#,#,#,#,#,#,#,#,#,#|#,#,#,#,#,#,#,#,#,#,#,#|#,#,#,#,#,#,#,#,#,#,#,#,#|#,#,#,#,#,#,#,#,#,#,#,#,#,#\
+        |#,#,#,#,#,#,#,#,#,#,#,#,#,#,#|#,#,#,#,#,#,#,#,#,#,#,#,#,#,#,#";
+    put_form(out, at, part(forms, b'|', at_most(n, 16)), &lists[from..])
 }
 
 // Whether all behind the first n of each list are zero.

@@ -3,7 +3,6 @@ ghost use Prim.Native.Nat.{_<_};
 use crate::given::BYTES;
 use crate::given::bytes_of;
 use crate::given::low;
-use show::Drive;
 use show::Layout;
 use show::Session;
 use show::Show;
@@ -16,97 +15,108 @@ pub(crate) fn file_of(hex: &[u8]) -> Reading {
     showfile::read(&file[0..n])
 }
 
-// ---- a hundred numbers: the drive and the counts, eight layouts, sixteen sessions, four numbers each
+// ---- a hundred numbers in fours: the drive and the counts, eight layouts, sixteen sessions
+
+struct Four {
+    a: u32,
+    b: u32,
+    c: u32,
+    d: u32,
+}
 
 pub(crate) fn numbers_of(show: Show) -> [u64; 100] {
     let mut numbers = [0u64; 100];
     let mut k = 0;
     while k < 100 {
-        numbers[k] = number_in(show, k);
+        numbers[k] = number_in(four_of(show, k / 4), k % 4);
         k += 1;
     }
     numbers
 }
 
-fn number_in(show: Show, k: usize) -> u64
-    requires { ⌜ k < 100 ⌝ }
+fn number_in(four: Four, k: usize) -> u64 {
+    match k {
+        0 => four.a as u64,
+        1 => four.b as u64,
+        2 => four.c as u64,
+        _ => four.d as u64,
+    }
+}
+
+fn four_of(show: Show, i: usize) -> Four
+    requires { ⌜ i < 25 ⌝ }
 {
-    let layouts = show.layouts;
-    let sessions = show.sessions;
-    if k < 4 {
-        return of_head(show, k);
+    if i == 0 {
+        return Four {
+            a: show.drive.block,
+            b: show.drive.cylinder,
+            c: low(show.laid as u64),
+            d: low(show.playing as u64),
+        };
     }
-    if k < 36 {
-        return of_layout(layouts[(k - 4) / 4], k % 4);
+    if i < 9 {
+        let y = show.layouts[i - 1];
+        return Four {
+            a: y.longest,
+            b: y.track,
+            c: y.time,
+            d: y.rotation,
+        };
     }
-    of_session(sessions[(k - 36) / 4], k % 4)
-}
-
-fn of_head(show: Show, k: usize) -> u64 {
-    match k {
-        0 => show.drive.block as u64,
-        1 => show.drive.cylinder as u64,
-        2 => show.laid as u64,
-        _ => show.playing as u64,
-    }
-}
-
-fn of_layout(layout: Layout, k: usize) -> u64 {
-    match k {
-        0 => layout.longest as u64,
-        1 => layout.track as u64,
-        2 => layout.time as u64,
-        _ => layout.rotation as u64,
-    }
-}
-
-fn of_session(session: Session, k: usize) -> u64 {
-    match k {
-        0 => session.rate as u64,
-        1 => session.cushion as u64,
-        2 => session.buffer as u64,
-        _ => session.layout as u64,
+    let x = show.sessions[i - 9];
+    Four {
+        a: x.rate,
+        b: x.cushion,
+        c: x.buffer,
+        d: x.layout,
     }
 }
 
 pub(crate) fn show_of(numbers: [u64; 100]) -> Show {
     let mut show = Show::nothing();
-    show.drive.block = low(numbers[0]);
-    show.drive.cylinder = low(numbers[1]);
-    show.laid = numbers[2] as usize;
-    show.playing = numbers[3] as usize;
+    let head = four_at(numbers, 0);
+    show.drive.block = head.a;
+    show.drive.cylinder = head.b;
+    show.laid = head.c as usize;
+    show.playing = head.d as usize;
     let mut i = 0;
     while i < 16 {
         if i < 8 {
-            show.layouts[i] = layout_at(numbers, i);
+            show.layouts[i] = layout_of(four_at(numbers, 1 + i));
         }
-        show.sessions[i] = session_at(numbers, i);
+        show.sessions[i] = session_of(four_at(numbers, 9 + i));
         i += 1;
     }
     show
 }
 
-fn layout_at(numbers: [u64; 100], i: usize) -> Layout
-    requires { ⌜ i < 8 ⌝ }
+fn four_at(numbers: [u64; 100], i: usize) -> Four
+    requires { ⌜ i < 25 ⌝ }
 {
-    let at = 4 + 4 * i;
-    Layout {
-        longest: low(numbers[at]),
-        track: low(numbers[at + 1]),
-        time: low(numbers[at + 2]),
-        rotation: low(numbers[at + 3]),
+    let at = 4 * i;
+    Four {
+        a: low(numbers[at]),
+        b: low(numbers[at + 1]),
+        c: low(numbers[at + 2]),
+        d: low(numbers[at + 3]),
     }
 }
 
-fn session_at(numbers: [u64; 100], i: usize) -> Session
-    requires { ⌜ i < 16 ⌝ }
-{
-    let at = 36 + 4 * i;
+fn layout_of(four: Four) -> Layout {
+    Layout {
+        longest: four.a,
+        track: four.b,
+        time: four.c,
+        rotation: four.d,
+    }
+}
+
+fn session_of(four: Four) -> Session {
     Session {
-        rate: low(numbers[at]),
-        cushion: low(numbers[at + 1]),
-        buffer: low(numbers[at + 2]),
-        layout: low(numbers[at + 3]),
+        rate: four.a,
+        cushion: four.b,
+        buffer: four.c,
+        layout: four.d,
     }
 }
 

@@ -3,6 +3,7 @@ use Prim.Native.Nat.{_-_}
 use borrow.Author.Needs.{needs}
 use Rattle.rehearsal.proofs.shows.numbers_of.Statement.{statement}
 use Rattle.rehearsal.proofs.shows.numbers_of.Tie as tie
+use Rattle.rehearsal.proofs.shows.four_of.Reads as four-of-reads
 use Rattle.rehearsal.proofs.shows.number_in.Reads as number-in-reads
 
 abbrev Inv-loop : tie.InvT-loop
@@ -18,6 +19,7 @@ numbers-of-spec =
     Inv-loop
     μ-loop
     (λ c. search needs)
+    (λ c κs. search needs)
     (λ c κs. search needs)
     (λ c. search needs)
     (λ c. search needs)

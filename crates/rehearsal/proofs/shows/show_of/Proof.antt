@@ -3,9 +3,9 @@ use Prim.Native.Nat.{_-_}
 use borrow.Author.Needs.{needs}
 use Rattle.rehearsal.proofs.shows.show_of.Statement.{statement}
 use Rattle.rehearsal.proofs.shows.show_of.Tie as tie
-use Rattle.rehearsal.proofs.given.low.Reads as low-reads
-use Rattle.rehearsal.proofs.shows.layout_at.Reads as layout-at-reads
-use Rattle.rehearsal.proofs.shows.session_at.Reads as session-at-reads
+use Rattle.rehearsal.proofs.shows.four_at.Reads as four-at-reads
+use Rattle.rehearsal.proofs.shows.layout_of.Reads as layout-of-reads
+use Rattle.rehearsal.proofs.shows.session_of.Reads as session-of-reads
 use Rattle.show.proofs.Show.nothing.Reads as nothing-reads
 
 abbrev Inv-loop : tie.InvT-loop
@@ -21,16 +21,17 @@ show-of-spec =
     Inv-loop
     μ-loop
     (λ c κs. search needs)
-    (λ c. search needs)
-    (λ c κs. search needs)
-    (λ c. search needs)
     (λ c κs. search needs)
     (λ c. search needs)
     (λ c. search needs)
     (λ c. search needs)
+    (λ c. search needs)
+    (λ c κs. search needs)
     (λ c κs. search needs)
     (λ c. search needs)
     (λ c. search needs)
+    (λ c. search needs)
+    (λ c κs. search needs)
     (λ c κs. search needs)
     (λ c. search needs)
     (λ c. search needs)
