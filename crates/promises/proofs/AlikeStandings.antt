@@ -19,7 +19,7 @@ use Rattle.standing.specs.Standing.{aheadIn, placeIn, Fit, slackIn}
 use Rattle.standing.specs.Decisions.{fit?}
 use Rattle.standing.specs.Answers.{timed, fitCheck, someoneCheck, slackFor}
 use Rattle.promises.specs.Unseen.{AlikeStandings}
-use Rattle.promises.proofs.Alike.{first-same}
+use Rattle.promises.proofs.AlikeSteps.{first-same}
 
 back : (s t : Standing) → AlikeStandings s t → AlikeStandings t s
 back s t a =

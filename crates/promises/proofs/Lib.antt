@@ -22,8 +22,8 @@ pub mod LighterRuns
 pub mod SpareTime
 pub mod Answered
 pub mod Alike
-pub mod AlikeStandings
 pub mod AlikeSteps
+pub mod AlikeStandings
 pub mod UnseenCycle
 pub mod UnseenStart
 pub mod Unseen
