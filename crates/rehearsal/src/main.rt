@@ -20,19 +20,13 @@ use crate::desk::Desk;
 use crate::desk::answers;
 use crate::desk::line;
 use crate::output::complain;
-use libc::STDIN_FILENO;
+use input::read_at;
 
 // The bytes at the start of the room that are no whole line yet, whether more may come, and the desk.
 struct Turn {
     held: usize,
     more: bool,
     desk: Desk,
-}
-
-// How many bytes came, and whether the read failed.
-struct Came {
-    len: usize,
-    failed: bool,
 }
 
 fn main() {
@@ -138,19 +132,6 @@ fn last_line(bytes: &[u8], desk: Desk) -> Desk {
         return desk;
     }
     line(bytes, desk)
-}
-
-// One read, from `at` on; no bytes at the end of the input.
-fn read_at(room: &mut [u8], at: usize) -> Came
-    requires { ⌜ at ≤ length (now room) ⌝ }
-    ensures { λ r. ⌜ at + r .len ≤ length (now (room .exit)) ⌝ }
-{
-    let part: &mut [u8] = &mut room[at..];
-    let got = libc::read(STDIN_FILENO, part);
-    Came {
-        len: io::count(got, part),
-        failed: got < 0,
-    }
 }
 
 // The bytes from `from` on come to the start.
