@@ -1,5 +1,5 @@
 // What a line asks for. The words of a line have one space between.
-use crate::answers::at_most;
+use crate::forms::at_most;
 use crate::given::are_counts;
 use crate::given::is_hex;
 use crate::given::is_note;

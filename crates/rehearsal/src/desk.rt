@@ -1,7 +1,5 @@
 // The desk that a script is rehearsed at: what there is so far, and what each line makes of it.
-use crate::answers::ERROR;
 use crate::answers::end;
-use crate::answers::tell;
 use crate::answers::tell_answer;
 use crate::answers::told_of;
 use crate::asked::Asked;
@@ -11,6 +9,8 @@ use crate::calls::Called;
 use crate::calls::call;
 use crate::calls::opened;
 use crate::fields::poke;
+use crate::forms::ERROR;
+use crate::forms::tell;
 use crate::given::memory_of;
 use crate::output::say;
 use crate::questions::about_show;

@@ -7,6 +7,7 @@ mod calls;
 mod desk;
 mod fields;
 mod files;
+mod forms;
 mod given;
 mod output;
 mod questions;

@@ -1,15 +1,15 @@
 // The line that tells the whole run record.
 ghost use Prim.Native.Nat.{_<_};
-use crate::answers::CELLS;
-use crate::answers::CYCLE;
-use crate::answers::NAMES;
-use crate::answers::NEWLINE;
-use crate::answers::NO_CELLS;
-use crate::answers::NOTHING;
-use crate::answers::at_most;
-use crate::answers::either;
-use crate::answers::put_lists;
-use crate::answers::put_said;
+use crate::forms::CELLS;
+use crate::forms::CYCLE;
+use crate::forms::NAMES;
+use crate::forms::NEWLINE;
+use crate::forms::NO_CELLS;
+use crate::forms::NOTHING;
+use crate::forms::at_most;
+use crate::forms::either;
+use crate::forms::put_lists;
+use crate::forms::put_said;
 use crate::output::said;
 use run::Run;
 use run::Underway;

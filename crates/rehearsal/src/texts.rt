@@ -1,18 +1,18 @@
 // The calculator's text of a file, and why it is refused, as one line: each newline is written \n.
 ghost use Prim.Native.Nat.{_≤_};
 ghost use lib.ListN.{length};
-use crate::answers::ARROW;
-use crate::answers::BREAK;
 use crate::answers::CHANGED;
 use crate::answers::DENIED;
 use crate::answers::DIFFERS;
 use crate::answers::GRANTED;
 use crate::answers::end;
-use crate::answers::tell;
 use crate::answers::told_of;
 use crate::answers::unless;
 use crate::files::fill;
 use crate::files::filled;
+use crate::forms::ARROW;
+use crate::forms::BREAK;
+use crate::forms::tell;
 use crate::given::BYTES;
 use crate::given::bytes_of;
 use crate::output::say;

@@ -5,8 +5,8 @@ use lib.ListN.{length}
 use borrow.Author.Needs.{needs}
 use Rattle.rehearsal.proofs.answers.put_faults.Statement.{statement}
 use Rattle.rehearsal.proofs.answers.put_faults.Tie as tie
-use Rattle.rehearsal.proofs.answers.either.Reads as either-reads
-use Rattle.rehearsal.proofs.answers.put_said.Reads as put-said-reads
+use Rattle.rehearsal.proofs.forms.either.Reads as either-reads
+use Rattle.rehearsal.proofs.forms.put_said.Reads as put-said-reads
 
 abbrev Inv-loop : tie.InvT-loop
 Inv-loop out₀ faults next₀ left₀ k₀ out next left k = length out ≡ length out₀

@@ -5,8 +5,8 @@ use lib.ListN.{length}
 use borrow.Author.Needs.{needs}
 use Rattle.rehearsal.proofs.record.put_unused.Statement.{statement}
 use Rattle.rehearsal.proofs.record.put_unused.Tie as tie
-use Rattle.rehearsal.proofs.answers.either.Reads as either-reads
-use Rattle.rehearsal.proofs.answers.put_said.Reads as put-said-reads
+use Rattle.rehearsal.proofs.forms.either.Reads as either-reads
+use Rattle.rehearsal.proofs.forms.put_said.Reads as put-said-reads
 use Rattle.rehearsal.proofs.record.cell_form.Reads as cell-form-reads
 
 abbrev Inv-loop : tie.InvT-loop

@@ -5,7 +5,7 @@ use Rattle.rehearsal.proofs.texts.tell_lines.Statement.{statement}
 use Rattle.rehearsal.proofs.texts.tell_lines.Tie as tie
 use Rattle.parse.proofs.part.Reads as part-reads
 use Rattle.parse.proofs.parts.Reads as parts-reads
-use Rattle.rehearsal.proofs.answers.tell.Reads as tell-reads
+use Rattle.rehearsal.proofs.forms.tell.Reads as tell-reads
 use Rattle.rehearsal.proofs.output.say.Reads as say-reads
 
 abbrev Inv-loop : tie.InvT-loop

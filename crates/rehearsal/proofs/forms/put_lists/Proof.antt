@@ -3,10 +3,10 @@ use Prim.Native.Nat.{_-_}
 use mathlib.Core.Path.{_≡_}
 use lib.ListN.{length}
 use borrow.Author.Needs.{needs}
-use Rattle.rehearsal.proofs.answers.put_lists.Statement.{statement}
-use Rattle.rehearsal.proofs.answers.put_lists.Tie as tie
-use Rattle.rehearsal.proofs.answers.put_list.Reads as put-list-reads
-use Rattle.rehearsal.proofs.answers.put_said.Reads as put-said-reads
+use Rattle.rehearsal.proofs.forms.put_lists.Statement.{statement}
+use Rattle.rehearsal.proofs.forms.put_lists.Tie as tie
+use Rattle.rehearsal.proofs.forms.put_list.Reads as put-list-reads
+use Rattle.rehearsal.proofs.forms.put_said.Reads as put-said-reads
 
 abbrev Inv-loop : tie.InvT-loop
 Inv-loop out₀ at form first end n lists next₀ k₀ out next k = length out ≡ length out₀
