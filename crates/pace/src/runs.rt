@@ -8,6 +8,7 @@ use crate::sums::two;
 use run::Run;
 use scheduler::Choice;
 use standing::Spare;
+use standing::magnitude;
 use std::num::wrapping_sub_u64;
 
 // How long a read takes, and how long passes before the next.
@@ -202,12 +203,4 @@ fn bits(t: i64) -> u64 {
         return wrapping_sub_u64(0, size);
     }
     size
-}
-
-fn magnitude(t: i64) -> u64 {
-    if t < 0 {
-        let below = (-1 - t) as u64;
-        return below + 1;
-    }
-    t as u64
 }

@@ -203,6 +203,7 @@ of-standing =
       cushion-added = λ e.
           apart sparing (ahead-time clip (record { put = 1; taken = 1; clock = 1 }) (omega arith) (negsuc 0) (omega arith, omega arith) refl ∙ e) tt;
       no-rate-is-damage = λ e. apart outcomeNumber (sym (order .runs .«ahead_of» noSession (loaded 1) .present refl) ∙ ap spareOutcome e) tt;
+      below-counted-from-minus-one = λ e. other e tt;
       damage-unseen = λ e.
           (let h = stood-sound (eighthAt 0 0 underway.Nothing) _ refl e .cycle .turning (omega arith) .left .low in let f : ⊥ = omega arith in f);
       order-unseen = λ e. apart sparing (sym (table .p8 .given) ∙ e) tt;

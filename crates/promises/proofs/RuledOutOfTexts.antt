@@ -29,6 +29,7 @@ use Rattle.parse.specs.Parts.{findOf, partsOf, restOf, partOf}
 use Rattle.parse.specs.Numbers.{countedOf, longerBy, spelled, fitting, decimalOf}
 use Rattle.parse.specs.Bytes.{joined, pairsOf, bytesOf, putOf}
 use Rattle.text.specs.Decimal.{digits, decimal}
+use Rattle.text.specs.Forms.{nextText, formText}
 use Rattle.text.specs.Hex.{hexText}
 use Rattle.text.specs.Puts.{putOver, putTo}
 use Rattle.text.specs.Told.{told, short}
@@ -122,7 +123,7 @@ of-parse =
     }
 
 pub of-text : OfText
-unfolding putOver putTo hexText digits decimal decLt decLe
+unfolding putOver putTo nextText formText hexText digits decimal decLt decLe ℕ-discrete
 of-text =
     record {
       just-fits-left-out = λ e. other e tt;
@@ -130,6 +131,7 @@ of-text =
       ten-as-one-digit = λ e. other e tt;
       no-room-for-a-digit = λ e. apart front e tt;
       half-a-pair = λ e. apart front e tt;
+      form-left-out = λ e. other e tt;
       hex-of-none = λ e. other e tt;
     }
 

@@ -3,7 +3,7 @@ use Prim.Native.Nat.{ℕ, _≤_}
 use mathlib.Core.Path.{_≡_}
 use mathlib.Core.Bool.{true, false}
 use mathlib.Core.List.{[], _∷_}
-use lib.IntN.{ℤ, pos}
+use lib.IntN.{ℤ, pos, negsuc, natAbs}
 use lib.ListN.{replicate}
 use Rattle.show.specs.declared.refusal.Refusal.the-variants as refusal
 use Rattle.show.specs.declared.refusal.Check.{Check}
@@ -105,6 +105,8 @@ pub record OfStanding : Type 0 where
   -- `ahead_of`, p9: with the cushion added; of a rate of 0, damage
   pub cushion-added : aheadFor clip (record { put = 1; taken = 1; clock = 1 }) ≡ Time (pos 3) → ⊥
   pub no-rate-is-damage : aheadFor noSession held ≡ spare.Refused refusal.Damaged → ⊥
+  -- `magnitude`: of -1 none, as if it were counted from -1 down
+  pub below-counted-from-minus-one : natAbs (negsuc 0) ≡ 0 → ⊥
   -- `stand`: granted to a run that has nothing left of its count
   pub damage-unseen : stoodOf (eighthAt 0 0 underway.Nothing) .check ≡ Within → ⊥
   -- `slack_in`, p8: in another order as much; a time where two share a place

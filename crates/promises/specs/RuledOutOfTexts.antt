@@ -23,6 +23,7 @@ use Rattle.parse.specs.Bytes.{bytesOf, putOf}
 use Rattle.parse.specs.Places.{PlaceIs}
 use Rattle.text.specs.Ascii.{ascii}
 use Rattle.text.specs.Decimal.{decimal}
+use Rattle.text.specs.Forms.{formText}
 use Rattle.text.specs.Hex.{hexText}
 use Rattle.text.specs.Lines.{paired}
 use Rattle.text.specs.Puts.{putOver, putTo}
@@ -103,6 +104,8 @@ pub record OfText : Type 0 where
   pub no-room-for-a-digit : putOver (replicate 2 0) 0 ([] ++ (decimal 100 ++ [])) ≡ ascii "10" → ⊥
   -- `put_paired`: the first number alone where both have no room
   pub half-a-pair : putOver (replicate 2 0) 0 (paired [] 1 (ascii " ") 2 []) ≡ ascii "1 " → ⊥
+  -- `put_form`: a text that just fits is left out
+  pub form-left-out : putTo (replicate 2 0) 0 (formText (ascii "#") (10 ∷ [])) ≡ 0 → ⊥
   -- `put_hex`: nothing for no bytes
   pub hex-of-none : putTo (replicate 2 0) 0 (hexText []) ≡ 0 → ⊥
 

@@ -21,6 +21,7 @@ use crate::shows::numbers_of;
 use show::Show;
 use show::refusal::Check;
 use show::refusal::Told;
+use standing::magnitude;
 use text::form::put_form;
 use text::hex::put_hex;
 
@@ -70,14 +71,6 @@ fn value_said(t: i64) -> Said {
         return said_as(BELOW, magnitude(t), 0);
     }
     said_as(VALUE, magnitude(t), 0)
-}
-
-fn magnitude(t: i64) -> u64 {
-    if t < 0 {
-        let below = (-1 - t) as u64;
-        return below + 1;
-    }
-    t as u64
 }
 
 pub(crate) fn tell_answer(answer: Answer) -> bool {

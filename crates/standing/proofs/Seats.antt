@@ -21,7 +21,7 @@ use Rattle.run.proofs.Orders.{names-below}
 use Rattle.standing.specs.declared.Standing.{Standing}
 use Rattle.standing.specs.Times.{named}
 use Rattle.standing.specs.Standing.{aheadIn, placeIn, Fit, spareIn, slackIn}
-use Rattle.standing.proofs.Orders.{named-at, named-each}
+use Rattle.standing.proofs.Orders.{named-back, named-each}
 
 -- ---- in any order: session i stands at p i, and e k stands at place k
 
@@ -91,9 +91,6 @@ seatIn l k = getD l k 0
 
 module _ (p : ℕ → ℕ) (n : ℕ) (l : List ℕ) (few : n ≤ length l) (below : (i : ℕ) → i < n → p i < n)
     (apart : (i j : ℕ) → i < n → j < n → p i ≡ p j → i ≡ j) where
-  back : (i : ℕ) → i < n → getD (named p n l) (p i) 0 ≡ i
-  back i m = named-at p l n (λ k b. let h = below k b in omega arith) apart i m
-
   named-inside : (k : ℕ) → k < n → getD (named p n l) k 0 < n
   named-inside = names-below (named p n l) n (named-each p l n few below apart)
 
@@ -102,12 +99,12 @@ module _ (p : ℕ → ℕ) (n : ℕ) (l : List ℕ) (few : n ≤ length l) (belo
       let i = getD (named p n l) k 0 in
       let b = named-inside k m in
       let once = named-each p l n few below apart i b in
-      once .only (p i) (below i b) (back i b) ∙ sym (once .only k m refl)
+      once .only (p i) (below i b) (named-back p l n few below apart i b) ∙ sym (once .only k m refl)
 
   pub named-seats : (o : List ℕ) → o ≡ named p n l → Seated p (seatIn o) n
   named-seats o e =
       subst (λ (x : List ℕ). Seated p (seatIn x) n) (sym e)
-      (record { below = below; inside = named-inside; placed = placed; seated = back })
+      (record { below = below; inside = named-inside; placed = placed; seated = named-back p l n few below apart })
 
 -- Of the sessions at the first k places: their times come to `sum`, and `least` is the least that one of them has to spare.
 pub record LeastTo (s : Standing) (o : List ℕ) (sum : ℕ) (least : ℤ) (k : ℕ) : Type 0 where

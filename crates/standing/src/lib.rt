@@ -6,6 +6,7 @@ mod least;
 pub mod order;
 
 ghost use mathlib.Core.Path.{_≡_};
+ghost use lib.IntN.{natAbs};
 ghost use Rattle.run.specs.Sound.{SoundRun};
 ghost use Rattle.standing.specs.Standing.{noStanding, standingOf};
 ghost use Rattle.standing.specs.Answers.{aheadFor, stoodOf, slackFor};
@@ -41,6 +42,17 @@ pub struct Standing {
 pub struct Stood {
     pub check: Check,
     pub standing: Standing,
+}
+
+// How many µs a time is, above zero or below.
+pub fn magnitude(t: i64) -> u64
+    ensures { λ r. ⌜ r ≡ natAbs t ⌝ }
+{
+    if t < 0 {
+        let below = (-1 - t) as u64;
+        return below + 1;
+    }
+    t as u64
 }
 
 // How far a session in this state is ahead of its player: 7 of a rate of 0, 19 of a state that no run has.

@@ -1,7 +1,7 @@
--- `rehearsal::answers::magnitude` is safe: below zero, -1 - t is 0 or more, and fits. Assumes nothing.
+-- `magnitude` is the size of a time: below zero, -1 - t is 0 or more, and fits. Assumes nothing.
 use Prim.Native.Nat.{ℕ, suc, _+_, _-_, _≤_, _<_}
 use native.Mathlib.Omega.{arith}
-use mathlib.Core.Path.{_≡_}
+use mathlib.Core.Path.{_≡_, refl}
 use mathlib.Core.Bool.{true, false, true≢false}
 use lib.IntN.{ℤ, pos, negsuc, natAbs, _-ℤ_}
 use lib.Signed.{ltZ, mag, nonNeg}
@@ -10,17 +10,20 @@ use mir.Facts.{toZ-ofZ}
 use mir.Val.{Fits, SFits}
 use mir.Syntax.{w64}
 use borrow.Author.Tests.{le-ltb, ltb-true}
-use borrow.Author.Needs.{needs}
-use Rattle.rehearsal.proofs.answers.magnitude.Statement.{statement}
-use Rattle.rehearsal.proofs.answers.magnitude.Tie as tie
+use Rattle.standing.proofs.magnitude.Statement.{statement}
+use Rattle.standing.proofs.magnitude.Tie as tie
 
--- -1 - z of a z below zero
+-- -1 - z of a z below zero, and its size
 below : (z : ℤ) → ltZ z (pos 0) ≡ true → negsuc 0 -ℤ z ≡ pos (mag z)
 below (negsuc n) e =
     let h : 1 ≤ suc n = omega arith in
     let v : suc n - 1 ≡ n = omega arith in
     rw (le-ltb (suc n) 1 h, v)
 below (pos n) e = let l : n < 0 = ltb-true n 0 e in let no : ⊥ = omega arith in absurd no
+
+size : (z : ℤ) → ltZ z (pos 0) ≡ true → mag z + 1 ≡ natAbs z
+size (negsuc n) e = omega arith
+size (pos n) e = let l : n < 0 = ltb-true n 0 e in let no : ⊥ = omega arith in absurd no
 
 low : (c : tie.Then1) → negsuc 0 -ℤ c .before .args .t ≡ pos (mag (c .before .args .t))
 low c = below (c .before .args .t) (simp (toZ-ofZ (c .before .fits .t)) at (c .if1 .taken))
@@ -44,12 +47,13 @@ cast-below c = simp (toZ-ofZ (c .before .fits .t), low c, toZ-ofZ (fit c)) (wide
 
 add-result : tie.Need-add-result
 add-result c =
-    let t = c in
-    let n : Fits w64 (mag (t .before .args .t) + 1) = record { fits = omega (arith, fit t .sfits) } in
-    simp (toZ-ofZ (t .before .fits .t), low t, toZ-ofZ (fit t)) n
+    simp (toZ-ofZ (c .before .fits .t), low c, toZ-ofZ (fit c)) (record { fits = omega (arith, fit c .sfits) })
 
 returns : tie.Need-returns
-returns c = search needs
+returns c =
+    let z = c .before .args .t in
+    let e = size z (simp (toZ-ofZ (c .before .fits .t)) at (c .if1 .taken)) in
+    simp (toZ-ofZ (c .before .fits .t), low c, toZ-ofZ (fit c)) e
 
 cast-result : tie.Need-cast-result
 cast-result c =
@@ -57,7 +61,7 @@ cast-result c =
     simp (toZ-ofZ f) (from (c .before .args .t) f (simp (toZ-ofZ f) at (c .if1 .left)))
 
 returns-2 : tie.Need-returns-2
-returns-2 c = search needs
+returns-2 c = simp (toZ-ofZ (c .before .fits .t)) refl
 
 pub magnitude-spec : {M : Type 1} → statement M
 magnitude-spec = tie.close (tie.spec sub-below cast-below add-result returns cast-result returns-2)
