@@ -11,13 +11,13 @@ mod sums;
 
 use libc::STDIN_FILENO;
 use libc::STDOUT_FILENO;
-use parse::Number;
-use parse::decimal;
 use parse::find;
 use parse::part;
 use parse::parts;
 use parse::same;
-use parse::unhex;
+use parse_numbers::Number;
+use parse_numbers::decimal;
+use parse_numbers::unhex;
 use show::Show;
 use show::refusal::Check;
 

@@ -3,8 +3,3 @@ pub mod PartLaws
 pub mod Places
 pub mod WorkedParts
 pub mod WorkedPlaces
-pub mod Values
-pub mod Pairs
-pub mod Puts
-pub mod NumberLaws
-pub mod Worked

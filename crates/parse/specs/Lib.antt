@@ -1,4 +1,2 @@
 pub mod Parts
 pub mod Places
-pub mod Numbers
-pub mod Bytes

@@ -7,10 +7,10 @@ use native.Mathlib.Omega.{arith}
 use lib.Dec.{lit<}
 use Rattle.text.specs.Decimal.{decimal}
 use Rattle.text.proofs.Digits.{decimal-last, decimal-more}
-use Rattle.parse.specs.declared.Number.the-variants.{Is}
-use Rattle.parse.specs.Numbers.{decimalOf}
-use Rattle.parse.proofs.NumberLaws.{digit-is, number-one, number-more}
-use Rattle.parse.proofs.Values.{longer-fits}
+use Rattle.parse_numbers.specs.declared.Number.the-variants.{Is}
+use Rattle.parse_numbers.specs.Numbers.{decimalOf}
+use Rattle.parse_numbers.proofs.NumberLaws.{digit-is, number-one, number-more}
+use Rattle.parse_numbers.proofs.Values.{longer-fits}
 
 -- by induction on a number above it
 below : (m n : ℕ) → n < m → n < 2 ^ 64 → decimalOf (decimal n) ≡ Is n

@@ -23,11 +23,11 @@ use Rattle.showfile.specs.Answers.{readCheck, readAt, readOf}
 use Rattle.showfile.proofs.Readable.{check-readable}
 use Rattle.showfile_write.specs.Answers.{writeCheck, writtenOf, bufferOf}
 use Rattle.showfile_write.specs.Trips.{rereadOf, copyCheck, copiedOf, copyOf}
-use Rattle.parse.specs.declared.Number.{Number}
-use Rattle.parse.specs.declared.Number.the-variants.{Is, Not}
+use Rattle.parse_numbers.specs.declared.Number.{Number}
+use Rattle.parse_numbers.specs.declared.Number.the-variants.{Is, Not}
 use Rattle.parse.specs.Parts.{findOf, partsOf, restOf, partOf}
-use Rattle.parse.specs.Numbers.{countedOf, longerBy, spelled, fitting, decimalOf}
-use Rattle.parse.specs.Bytes.{joined, pairsOf, bytesOf, putOf}
+use Rattle.parse_numbers.specs.Numbers.{countedOf, longerBy, spelled, fitting, decimalOf}
+use Rattle.parse_numbers.specs.Bytes.{joined, pairsOf, bytesOf, putOf}
 use Rattle.text.specs.Decimal.{digits, decimal}
 use Rattle.text.specs.Forms.{nextText, formText}
 use Rattle.text.specs.Hex.{hexText}

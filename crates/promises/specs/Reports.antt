@@ -8,8 +8,8 @@ use Rattle.text.specs.Ascii.{ascii}
 use Rattle.text.specs.Decimal.{decimal}
 use Rattle.text.specs.Numerals.{Numeral}
 use Rattle.report.specs.Answers.{TextIs, textMost}
-use Rattle.parse.specs.declared.Number.the-variants.{Is}
-use Rattle.parse.specs.Numbers.{decimalOf}
+use Rattle.parse_numbers.specs.declared.Number.the-variants.{Is}
+use Rattle.parse_numbers.specs.Numbers.{decimalOf}
 use Rattle.promises.specs.Numbers.{X, Z, clip, showOf}
 
 -- p3 with no note

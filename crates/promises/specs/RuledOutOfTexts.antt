@@ -16,10 +16,10 @@ use Rattle.showfile.specs.Checks.{noteLength}
 use Rattle.showfile.specs.Answers.{reading, readOf, noteOf}
 use Rattle.showfile_write.specs.Answers.{writtenOf, bufferOf}
 use Rattle.showfile_write.specs.Trips.{rereadOf, copiedOf, copyOf}
-use Rattle.parse.specs.declared.Number.the-variants.{Not}
+use Rattle.parse_numbers.specs.declared.Number.the-variants.{Not}
 use Rattle.parse.specs.Parts.{findOf, partsOf, partOf}
-use Rattle.parse.specs.Numbers.{decimalOf}
-use Rattle.parse.specs.Bytes.{bytesOf, putOf}
+use Rattle.parse_numbers.specs.Numbers.{decimalOf}
+use Rattle.parse_numbers.specs.Bytes.{bytesOf, putOf}
 use Rattle.parse.specs.Places.{PlaceIs}
 use Rattle.text.specs.Ascii.{ascii}
 use Rattle.text.specs.Decimal.{decimal}

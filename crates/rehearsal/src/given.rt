@@ -2,12 +2,12 @@
 ghost use Prim.Native.Nat.{_≤_};
 ghost use lib.ListN.{length};
 use crate::shows::show_of;
-use parse::Number;
-use parse::decimal;
 use parse::find;
 use parse::part;
 use parse::parts;
-use parse::unhex;
+use parse_numbers::Number;
+use parse_numbers::decimal;
+use parse_numbers::unhex;
 use run::State;
 use show::Session;
 use show::Show;

@@ -1,10 +1,10 @@
 -- `longer` stops before the number is 2^64 or more. Assumes nothing.
 use mathlib.Core.Path.{sym, _∙_}
 use native.Mathlib.Omega.{arith}
-use Rattle.parse.proofs.Values.{longer-none, longer-fits, longer-large}
+use Rattle.parse_numbers.proofs.Values.{longer-none, longer-fits, longer-large}
 use borrow.Author.Needs.{needs}
-use Rattle.parse.proofs.digits.longer.Statement.{statement}
-use Rattle.parse.proofs.digits.longer.Tie as tie
+use Rattle.parse_numbers.proofs.digits.longer.Statement.{statement}
+use Rattle.parse_numbers.proofs.digits.longer.Tie as tie
 
 returns : tie.Need-returns
 returns c = longer-none _ _ (sym (c .before .before .counted .ensures) ∙ c .enum-told .given .1)

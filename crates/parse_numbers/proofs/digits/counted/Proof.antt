@@ -1,8 +1,8 @@
 -- `counted` tries both ends. Assumes nothing.
-use Rattle.parse.proofs.Values.{counted-low, counted-high, counted-within}
+use Rattle.parse_numbers.proofs.Values.{counted-low, counted-high, counted-within}
 use borrow.Author.Needs.{needs}
-use Rattle.parse.proofs.digits.counted.Statement.{statement}
-use Rattle.parse.proofs.digits.counted.Tie as tie
+use Rattle.parse_numbers.proofs.digits.counted.Statement.{statement}
+use Rattle.parse_numbers.proofs.digits.counted.Tie as tie
 
 returns : tie.Need-returns
 returns c = counted-low _ _ _ _ _ (c .if1 .taken)

@@ -6,10 +6,10 @@ use mathlib.Core.Logic.{ite, if-pos, if-neg}
 use native.Mathlib.Decide.{decLt}
 use native.Mathlib.Omega.{arith}
 use lib.ListN.{length, drop, getD, drop-of-length-le}
-use Rattle.parse.specs.declared.Number.{Number}
-use Rattle.parse.specs.declared.Number.the-variants.{Is, Not}
-use Rattle.parse.specs.Numbers.{countedOf, digitOf, longerBy, spelled, fitting, decimalOf}
+use Rattle.parse_numbers.specs.declared.Number.{Number}
+use Rattle.parse_numbers.specs.declared.Number.the-variants.{Is, Not}
+use Rattle.parse_numbers.specs.Numbers.{countedOf, digitOf, longerBy, spelled, fitting, decimalOf}
 use Rattle.parse.proofs.Turns.{stands}
 
 pub is-not : {p : Type 0} {n : ℕ} → Is n ≡ Not → p
 is-not e = absurd (let z : _≡_ {A = ℕ} 0 1 = cc in let f : ⊥ = omega arith in f)

@@ -1,10 +1,10 @@
 -- `pair` is 16 times its first digit and its second. Assumes nothing.
 use mathlib.Core.Path.{sym, _∙_}
 use native.Mathlib.Omega.{arith}
-use Rattle.parse.proofs.Pairs.{hex-small, no-high, no-low, both}
+use Rattle.parse_numbers.proofs.Pairs.{hex-small, no-high, no-low, both}
 use borrow.Author.Needs.{needs}
-use Rattle.parse.proofs.digits.pair.Statement.{statement}
-use Rattle.parse.proofs.digits.pair.Tie as tie
+use Rattle.parse_numbers.proofs.digits.pair.Statement.{statement}
+use Rattle.parse_numbers.proofs.digits.pair.Tie as tie
 
 returns : tie.Need-returns
 returns c = no-high _ _ (sym (c .before .before .hex-digit .ensures) ∙ c .enum-told .given .1)

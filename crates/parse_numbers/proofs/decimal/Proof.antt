@@ -6,9 +6,9 @@ use native.Mathlib.Omega.{arith}
 use lib.Dec.{lit<}
 use lib.ListN.{length}
 use borrow.Author.Needs.{needs}
-use Rattle.parse.proofs.Values.{SoFar, number-none, body, stopped, ended}
-use Rattle.parse.proofs.decimal.Statement.{statement}
-use Rattle.parse.proofs.decimal.Tie as tie
+use Rattle.parse_numbers.proofs.Values.{SoFar, number-none, body, stopped, ended}
+use Rattle.parse_numbers.proofs.decimal.Statement.{statement}
+use Rattle.parse_numbers.proofs.decimal.Tie as tie
 
 abbrev Inv-loop : tie.InvT-loop
 Inv-loop text n₀ i₀ n i = SoFar text n i

@@ -1,10 +1,10 @@
 -- `unhex` looks at the whole text first, then puts all its bytes or as many as there is room for. Assumes nothing.
 use mathlib.Core.Path.{sym, _∙_}
 use native.Mathlib.Omega.{arith}
-use Rattle.parse.proofs.Puts.{put-none, put-some, put-all, count-is}
+use Rattle.parse_numbers.proofs.Puts.{put-none, put-some, put-all, count-is}
 use borrow.Author.Needs.{needs}
-use Rattle.parse.proofs.unhex.Statement.{statement}
-use Rattle.parse.proofs.unhex.Tie as tie
+use Rattle.parse_numbers.proofs.unhex.Statement.{statement}
+use Rattle.parse_numbers.proofs.unhex.Tie as tie
 
 returns : tie.Need-returns
 returns c =

@@ -3,8 +3,8 @@ use Prim.Native.Nat.{ℕ, _+_, _*_, _-_, _^_}
 use mathlib.Core.List.{List, [], _∷_}
 use mathlib.Core.Logic.{ite}
 use native.Mathlib.Decide.{decLt}
-use Rattle.parse.specs.declared.Number.{Number}
-use Rattle.parse.specs.declared.Number.the-variants.{Is, Not}
+use Rattle.parse_numbers.specs.declared.Number.{Number}
+use Rattle.parse_numbers.specs.declared.Number.the-variants.{Is, Not}
 
 -- a byte from `least` to `most` counts on from `first`; any other is what else it may be
 unfoldable pub countedOf : ℕ → ℕ → ℕ → ℕ → Number → Number

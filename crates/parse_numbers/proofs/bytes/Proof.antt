@@ -3,10 +3,10 @@
 use Prim.Native.Nat.{_-_}
 use mathlib.Core.Path.{refl}
 use native.Mathlib.Omega.{arith}
-use Rattle.parse.proofs.Pairs.{SoFar, bytes-none, odd, body, stopped, ended}
+use Rattle.parse_numbers.proofs.Pairs.{SoFar, bytes-none, odd, body, stopped, ended}
 use borrow.Author.Needs.{needs}
-use Rattle.parse.proofs.bytes.Statement.{statement}
-use Rattle.parse.proofs.bytes.Tie as tie
+use Rattle.parse_numbers.proofs.bytes.Statement.{statement}
+use Rattle.parse_numbers.proofs.bytes.Tie as tie
 
 abbrev Inv-loop : tie.InvT-loop
 Inv-loop text n i₀ i = SoFar text n i

@@ -2,10 +2,10 @@
 use mathlib.Core.Path.{_≡_, refl}
 use mathlib.Core.List.{[], _∷_}
 use native.Mathlib.Decide.{decLt, decLe}
 use Rattle.parse.proofs.WorkedParts.{text}
-use Rattle.parse.specs.declared.Number.the-variants.{Is, Not}
-use Rattle.parse.specs.Numbers.{countedOf, longerBy, spelled, fitting, decimalOf}
-use Rattle.parse.specs.Bytes.{Are, None, joined, pairsOf, bytesOf, countOf, putOf}
+use Rattle.parse_numbers.specs.declared.Number.the-variants.{Is, Not}
+use Rattle.parse_numbers.specs.Numbers.{countedOf, longerBy, spelled, fitting, decimalOf}
+use Rattle.parse_numbers.specs.Bytes.{Are, None, joined, pairsOf, bytesOf, countOf, putOf}
 
 pub record Table : Type 0 where
   pub digits : decimalOf (text "120") ≡ Is 120

@@ -2,9 +2,9 @@
 use Prim.Native.Nat.{ℕ}
 use mathlib.Core.List.{List, [], _∷_, _++_}
 use lib.ListN.{length, take, drop}
-use Rattle.parse.specs.declared.Number.{Number}
-use Rattle.parse.specs.declared.Number.the-variants.{Is, Not}
-use Rattle.parse.specs.Numbers.{countedOf, longerBy}
+use Rattle.parse_numbers.specs.declared.Number.{Number}
+use Rattle.parse_numbers.specs.declared.Number.the-variants.{Is, Not}
+use Rattle.parse_numbers.specs.Numbers.{countedOf, longerBy}
 
 -- bytes, or none
 pub data Bytes : Type 0 where

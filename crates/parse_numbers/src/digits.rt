@@ -1,8 +1,8 @@
 // What one byte counts as a digit.
 ghost use mathlib.Core.Path.{_≡_};
-ghost use Rattle.parse.specs.declared.Number.the-variants.{Is};
-ghost use Rattle.parse.specs.Numbers.{countedOf, digitOf, longerBy, fitting};
-ghost use Rattle.parse.specs.Bytes.{hexOf, byteOf, orZero};
+ghost use Rattle.parse_numbers.specs.declared.Number.the-variants.{Is};
+ghost use Rattle.parse_numbers.specs.Numbers.{countedOf, digitOf, longerBy, fitting};
+ghost use Rattle.parse_numbers.specs.Bytes.{hexOf, byteOf, orZero};
 use crate::Number;
 
 const MOST: u64 = 18_446_744_073_709_551_615;

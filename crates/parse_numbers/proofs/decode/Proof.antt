@@ -5,11 +5,11 @@ use mathlib.Core.Path.{_≡_, refl, ap, _∙_}
 use mathlib.Core.List.{List, _++_}
 use native.Mathlib.Omega.{arith}
 use lib.ListN.{length, take, drop, set, length-set}
-use Rattle.parse.specs.Bytes.{bytesOf, listOf}
-use Rattle.parse.proofs.Puts.{listed-within, byte-at, put-more}
+use Rattle.parse_numbers.specs.Bytes.{bytesOf, listOf}
+use Rattle.parse_numbers.proofs.Puts.{listed-within, byte-at, put-more}
 use borrow.Author.Needs.{needs}
-use Rattle.parse.proofs.decode.Statement.{statement}
-use Rattle.parse.proofs.decode.Tie as tie
+use Rattle.parse_numbers.proofs.decode.Statement.{statement}
+use Rattle.parse_numbers.proofs.decode.Tie as tie
 
 abbrev Inv-loop : tie.InvT-loop
 Inv-loop text out₀ n i₀ out i = (i ≤ n) × ((length out ≡ length out₀) × (out ≡ take i (listOf (bytesOf text)) ++ drop i out₀))

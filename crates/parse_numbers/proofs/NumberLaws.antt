@@ -4,10 +4,10 @@ use mathlib.Core.Path.{_≡_, refl, sym, ap, _∙_}
 use mathlib.Core.List.{List, [], _∷_, _++_}
 use native.Mathlib.Omega.{arith}
 use lib.ListN.{length-append}
-use Rattle.parse.specs.declared.Number.{Number}
-use Rattle.parse.specs.declared.Number.the-variants.{Is, Not}
-use Rattle.parse.specs.Numbers.{digitOf, longerBy, spelled, fitting, decimalOf}
-use Rattle.parse.proofs.Values.{is-not, counted-within, fits, fitting-is, number-some}
+use Rattle.parse_numbers.specs.declared.Number.{Number}
+use Rattle.parse_numbers.specs.declared.Number.the-variants.{Is, Not}
+use Rattle.parse_numbers.specs.Numbers.{digitOf, longerBy, spelled, fitting, decimalOf}
+use Rattle.parse_numbers.proofs.Values.{is-not, counted-within, fits, fitting-is, number-some}
 
 -- a digit counts what it stands above 48
 pub digit-is : (d : ℕ) → d < 10 → digitOf (48 + d) ≡ Is d

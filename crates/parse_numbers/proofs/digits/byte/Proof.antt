@@ -1,9 +1,9 @@
 -- `byte` is what `pair` answers, as a byte. Assumes nothing.
 use mathlib.Core.Path.{sym, _∙_}
-use Rattle.parse.proofs.Pairs.{byte-small, zero-none, zero-is}
+use Rattle.parse_numbers.proofs.Pairs.{byte-small, zero-none, zero-is}
 use borrow.Author.Needs.{needs}
-use Rattle.parse.proofs.digits.byte.Statement.{statement}
-use Rattle.parse.proofs.digits.byte.Tie as tie
+use Rattle.parse_numbers.proofs.digits.byte.Statement.{statement}
+use Rattle.parse_numbers.proofs.digits.byte.Tie as tie
 
 pair-requires : tie.Need-pair-requires
 pair-requires c κs = search needs

@@ -6,12 +6,12 @@ use mathlib.Core.List.{List, [], _∷_}
 use native.Mathlib.Omega.{arith}
 use lib.Dec.{lit<}
 use lib.ListN.{length, drop, getD, drop-of-length-le}
-use Rattle.parse.specs.declared.Number.{Number}
-use Rattle.parse.specs.declared.Number.the-variants.{Is, Not}
-use Rattle.parse.specs.Numbers.{longerBy}
-use Rattle.parse.specs.Bytes.{Bytes, Are, None, hexOf, byteOf, joined, pairsOf, bytesOf, countOf, orZero}
+use Rattle.parse_numbers.specs.declared.Number.{Number}
+use Rattle.parse_numbers.specs.declared.Number.the-variants.{Is, Not}
+use Rattle.parse_numbers.specs.Numbers.{longerBy}
+use Rattle.parse_numbers.specs.Bytes.{Bytes, Are, None, hexOf, byteOf, joined, pairsOf, bytesOf, countOf, orZero}
 use Rattle.parse.proofs.Turns.{stands}
-use Rattle.parse.proofs.Values.{is-not, counted-small}
+use Rattle.parse_numbers.proofs.Values.{is-not, counted-small}
 
 pub are-none : {p : Type 0} {l : List ℕ} → Are l ≡ None → p
 are-none e = absurd (let z : _≡_ {A = ℕ} 0 1 = cc in let f : ⊥ = omega arith in f)

@@ -6,12 +6,12 @@ use native.Mathlib.Numerals.{add-one}
 use native.Mathlib.Omega.{arith}
 use lib.ListN.{length, take, drop, getD, set, drop-of-length-le}
 use lib.Seq.{take-suc, take-all, length-take-le, set-at}
-use Rattle.parse.specs.declared.Number.{Number}
-use Rattle.parse.specs.declared.Number.the-variants.{Is, Not}
-use Rattle.parse.specs.Bytes.{Bytes, Are, None, byteOf, joined, pairsOf, bytesOf, countOf, putOf, listOf, orZero}
+use Rattle.parse_numbers.specs.declared.Number.{Number}
+use Rattle.parse_numbers.specs.declared.Number.the-variants.{Is, Not}
+use Rattle.parse_numbers.specs.Bytes.{Bytes, Are, None, byteOf, joined, pairsOf, bytesOf, countOf, putOf, listOf, orZero}
 use Rattle.parse.proofs.Turns.{stands}
-use Rattle.parse.proofs.Values.{is-not}
-use Rattle.parse.proofs.Pairs.{bytes-length}
+use Rattle.parse_numbers.proofs.Values.{is-not}
+use Rattle.parse_numbers.proofs.Pairs.{bytes-length}
 
 -- two digits to each byte
 pub listed-within : (text : List ℕ) → 2 * length (listOf (bytesOf text)) ≤ length text

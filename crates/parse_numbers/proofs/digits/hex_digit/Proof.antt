@@ -1,7 +1,7 @@
 -- `hex_digit` tries 0 to 9, then the letters of either case. Assumes nothing.
 use borrow.Author.Needs.{needs}
-use Rattle.parse.proofs.digits.hex_digit.Statement.{statement}
-use Rattle.parse.proofs.digits.hex_digit.Tie as tie
+use Rattle.parse_numbers.proofs.digits.hex_digit.Statement.{statement}
+use Rattle.parse_numbers.proofs.digits.hex_digit.Tie as tie
 
 counted-requires : tie.Need-counted-requires
 counted-requires c κs = search needs

@@ -1,0 +1,5 @@
+pub mod Values
+pub mod Pairs
+pub mod Puts
+pub mod NumberLaws
+pub mod Worked
