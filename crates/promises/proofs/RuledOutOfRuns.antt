@@ -133,6 +133,11 @@ unfolding passed changed counted landed listed decLe
 of-playback =
     record {
       clock-passes-its-bytes = λ e. apart (λ (r : Run). stateAt r 0 .clock) (sym (ap (λ (m : Moved). m .run) (table .p10 .two)) ∙ e) tt;
+      damaged-granted = λ e.
+          apart outcomeNumber
+          (sym (order .runs .pass (eighthAt 0 0 underway.Nothing) 0 .present (λ s. let h = s .cycle .turning (omega arith) .left .low in let f : ⊥ = omega arith in f))
+          ∙ ap checkOutcome e)
+          tt;
       granted-before-the-start = λ e.
           apart outcomeNumber
           (sym (order .runs .take eighth 0 1 .absent (λ n. n eighth-sound) .absent (λ l. let f : ⊥ = omega arith in f) .present refl) ∙ ap checkOutcome e)

@@ -84,6 +84,8 @@ pub record OfPlayer : Type 0 where
 pub record OfPlayback : Type 0 where
   -- `pass`, p10: after 2 µs a clock above its G
   pub clock-passes-its-bytes : passOf (clocked 0) 2 .run ≡ clocked 1024000 → ⊥
+  -- of a damaged run, granted
+  pub damaged-granted : passOf (eighthAt 0 0 underway.Nothing) 0 .check ≡ Within → ⊥
   -- `take`: granted before the start; 12 before 9
   pub granted-before-the-start : takeOf eighth 0 1 .check ≡ Within → ⊥
   pub twelve-before-nine : takeOf eighth 3 0 .check ≡ Refused refusal.NotStarted → ⊥
