@@ -7,9 +7,9 @@ use crate::sums::three;
 use crate::sums::two;
 use run::Run;
 use scheduler::Choice;
-use standing::Spare;
-use standing::magnitude;
 use std::num::wrapping_sub_u64;
+use workahead::Spare;
+use workahead::magnitude;
 
 // How long a read takes, and how long passes before the next.
 const SPAN: u64 = 100;

@@ -17,7 +17,8 @@ use Rattle.showfile_write.proofs.Unused.{told-same}
 use Rattle.standing.specs.declared.Standing.{Standing}
 use Rattle.standing.specs.Standing.{aheadIn, placeIn, Fit, slackIn}
 use Rattle.standing.specs.Decisions.{fit?}
-use Rattle.standing.specs.Answers.{timed, fitCheck, someoneCheck, slackFor}
+use Rattle.workahead.specs.Answers.{timed}
+use Rattle.standing.specs.Answers.{fitCheck, someoneCheck, slackFor}
 use Rattle.promises.specs.Unseen.{AlikeStandings}
 use Rattle.promises.proofs.AlikeSteps.{first-same}
 

@@ -24,7 +24,7 @@ use Rattle.run.specs.Decisions.{sound?, soundCheck}
 use Rattle.run.specs.Answers.{moved, presentCheck}
 use Rattle.run.specs.Steps.{ticked, tickedAt, statesAfter, passed, drawn, drawnAt}
 use Rattle.run.proofs.Changed.{changed-below}
-use Rattle.standing.specs.declared.Spare.the-variants as spare
+use Rattle.workahead.specs.declared.Spare.the-variants as spare
 use Rattle.spare.specs.Answers.{spared}
 use Rattle.promises.specs.Runs.{Sized}
 use Rattle.promises.proofs.Runs.{few}

@@ -24,7 +24,7 @@ use Rattle.run.specs.Run.{playing, stateAt}
 use Rattle.run.specs.Sound.{SoundRun}
 use Rattle.run.specs.Decisions.{below?, some?, show?, good?, false?, true?, waiting?, state?}
 use Rattle.run.specs.Decisions.{named?, nothing?, room?, put?, mayRead?, underway?, cycle?, sound?}
-use Rattle.standing.specs.declared.Spare.the-variants.{Time}
+use Rattle.workahead.specs.declared.Spare.the-variants.{Time}
 use Rattle.standing.specs.Times.{slackTime}
 use Rattle.spare.specs.declared.Spared.{Spared}
 use Rattle.spare.specs.Answers.{slackOf}

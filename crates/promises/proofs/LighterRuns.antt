@@ -11,7 +11,7 @@ use Rattle.theory.proofs.Integers.{≤ℤ-trans}
 use Rattle.verdict.specs.Answers.{setOf}
 use Rattle.run.specs.declared.Run.{Run}
 use Rattle.run.specs.Run.{playing}
-use Rattle.standing.specs.declared.Spare.the-variants.{Time}
+use Rattle.workahead.specs.declared.Spare.the-variants.{Time}
 use Rattle.spare.specs.Answers.{workaheadOf, slackOf}
 use Rattle.spare.specs.Laws.{Steady, Lightly}
 use Rattle.spare.proofs.Laws.{workahead-told, slack-told}

@@ -27,8 +27,8 @@ use Rattle.run_test.specs.Answers.{testOutcome}
 use Rattle.scheduler.specs.declared.Choice.{Choice}
 use Rattle.scheduler.specs.declared.Choice.the-variants as choice
 use Rattle.scheduler.specs.Answers.{choiceOutcome}
-use Rattle.standing.specs.declared.Spare.the-variants as spare
-use Rattle.standing.specs.Answers.{spareOutcome}
+use Rattle.workahead.specs.declared.Spare.the-variants as spare
+use Rattle.workahead.specs.Answers.{spareOutcome}
 use Rattle.promises.specs.Refusals.{KnownBy, Known, Numbered}
 
 -- ---- answers

@@ -20,9 +20,9 @@ use Rattle.reason.specs.declared.Loaded.the-variants as loaded
 use Rattle.reason.specs.Answers.{reasonOutcome, loadedOutcome}
 use Rattle.scheduler.specs.declared.Choice.the-variants as choice
 use Rattle.scheduler.specs.Answers.{choiceOutcome}
-use Rattle.standing.specs.declared.Spare.{Spare}
-use Rattle.standing.specs.declared.Spare.the-variants as spare
-use Rattle.standing.specs.Answers.{spareOutcome}
+use Rattle.workahead.specs.declared.Spare.{Spare}
+use Rattle.workahead.specs.declared.Spare.the-variants as spare
+use Rattle.workahead.specs.Answers.{spareOutcome}
 use Rattle.promises.specs.Refusals.{Says, Only}
 use Rattle.promises.specs.Order.{Grants, _when_else_, ShowThen, WriteOrder}
 use Rattle.promises.proofs.Says.{Among, says, grants-among, when-among, limits-among, show-among, file-among}

@@ -28,10 +28,13 @@ use Rattle.playback.specs.Answers.{spanCheck, passCheck, passOf, takeCheck, tak
 use Rattle.scheduler.specs.declared.Chosen.{Chosen}
 use Rattle.scheduler.specs.Answers.{nextOf, arrived, chooseCheck, chooseOf, choiceOutcome}
 use Rattle.standing.specs.declared.Standing.{Standing}
-use Rattle.standing.specs.Times.{slackTime, aheadAt, aheadOf}
+use Rattle.workahead.specs.Times.{aheadOf}
+use Rattle.standing.specs.Times.{slackTime, aheadAt}
 use Rattle.standing.specs.Standing.{slackIn}
-use Rattle.standing.specs.Decisions.{countable?, fit?}
-use Rattle.standing.specs.Answers.{playsCheck, countableCheck, aheadFor, fitCheck, someoneCheck, slackFor}
+use Rattle.workahead.specs.Decisions.{countable?}
+use Rattle.standing.specs.Decisions.{fit?}
+use Rattle.workahead.specs.Answers.{playsCheck, countableCheck, aheadFor}
+use Rattle.standing.specs.Answers.{fitCheck, someoneCheck, slackFor}
 use Rattle.standing.proofs.Laws.{stood-check}
 use Rattle.spare.specs.Times.{running}
 use Rattle.spare.specs.Answers.{workaheadOf, slackOf, someCheck, slackCheck, startCheck, startOf}

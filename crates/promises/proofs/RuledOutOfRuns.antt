@@ -41,13 +41,14 @@ use Rattle.scheduler.specs.declared.Choice.the-variants as choice
 use Rattle.scheduler.specs.declared.Chosen.{Chosen}
 use Rattle.scheduler.specs.Answers.{arrived, arrivedPast, chooseOf}
 use Rattle.scheduler.proofs.Calls.{choose-next}
-use Rattle.standing.specs.declared.Spare.{Spare}
-use Rattle.standing.specs.declared.Spare.the-variants as spare
+use Rattle.workahead.specs.declared.Spare.{Spare}
+use Rattle.workahead.specs.declared.Spare.the-variants as spare
 use Rattle.standing.specs.Times.{named}
 use Rattle.standing.specs.Standing.{placeIn}
-use Rattle.standing.specs.Answers.{spareOutcome}
+use Rattle.workahead.specs.Answers.{spareOutcome}
 use Rattle.standing.proofs.Orders.{ordered-few}
-use Rattle.standing.proofs.Calls.{ahead-time, stood-sound}
+use Rattle.workahead.proofs.Calls.{ahead-time}
+use Rattle.standing.proofs.Calls.{stood-sound}
 use Rattle.spare.specs.declared.Spared.{Spared}
 use Rattle.spare.specs.Times.{running}
 use Rattle.spare.proofs.Calls.{start-begins, begin-granted}

@@ -28,14 +28,15 @@ use Rattle.run.specs.Answers.{moved}
 use Rattle.run.specs.declared.Moved.{Moved}
 use Rattle.run.proofs.Answered.{moved-check}
 use Rattle.run.proofs.Orders.{names-below}
-use Rattle.standing.specs.declared.Spare.the-variants as spare
+use Rattle.workahead.specs.declared.Spare.the-variants as spare
 use Rattle.standing.specs.declared.Standing.{Standing}
 use Rattle.standing.specs.Times.{aheadAt, timeAt, placeAt}
 use Rattle.standing.specs.Standing.{aheadIn, placeIn, spareIn}
 use Rattle.standing.specs.Answers.{stoodOf, slackFor}
 use Rattle.standing.proofs.Calls.{stood-standing}
+use Rattle.workahead.proofs.Laws.{ahead-told}
 use Rattle.standing.proofs.Laws as told
-use Rattle.standing.proofs.Aheads.{counting}
+use Rattle.workahead.proofs.Aheads.{counting}
 use Rattle.standing.proofs.Orders.{named-at}
 use Rattle.spare.specs.declared.Spared.{Spared}
 use Rattle.spare.specs.Times.{startOrder, running}
@@ -148,7 +149,7 @@ spare-time =
     record {
       workahead = floored;
       «ahead_of» = λ x s z e.
-          (let t = told.ahead-told x s z e in
+          (let t = ahead-told x s z e in
           subst (Floors (leadOf x s) (x .rate)) (sym (t .1)) (floor-floors (leadOf x s) (x .rate) (t .0)));
       slack = λ r z e.
           (let t = slack-told r z e in

@@ -25,7 +25,7 @@ use Rattle.run.specs.Opening.{openedBy}
 use Rattle.run_test.specs.declared.Test.the-variants as test
 use Rattle.run_test.specs.Answers.{testOutcome}
 use Rattle.scheduler.specs.Answers.{nextOf, chosenBy, choiceOutcome}
-use Rattle.standing.specs.Answers.{timed, spareOutcome}
+use Rattle.workahead.specs.Answers.{timed, spareOutcome}
 use Rattle.spare.specs.Answers.{spared}
 use Rattle.promises.specs.Order.{refusedWith, _when_else_}
 

@@ -30,7 +30,8 @@ use Rattle.run.specs.Sound.{SoundRun}
 use Rattle.run.specs.Decisions.{false?, sound?, soundCheck}
 use Rattle.run.specs.Answers.{presentCheck, freeCheck}
 use Rattle.standing.specs.declared.Standing.{Standing}
-use Rattle.standing.specs.Times.{aheadOf, aheadAt, timeAt, slackTime, placeAt, named}
+use Rattle.workahead.specs.Times.{aheadOf}
+use Rattle.standing.specs.Times.{aheadAt, timeAt, slackTime, placeAt, named}
 use Rattle.standing.specs.Standing.{aheadIn, aheadsOf, placesOf, standingOf}
 use Rattle.standing.specs.Answers.{stoodBy, stoodOf}
 use Rattle.standing.proofs.Orders.{named-length, named-same}

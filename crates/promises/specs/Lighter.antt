@@ -16,7 +16,7 @@ use Rattle.verdict.specs.declared.Verdict.the-variants as verdict
 use Rattle.verdict.specs.Answers.{DecisionIs, setOf}
 use Rattle.run.specs.declared.Run.{Run}
 use Rattle.run.specs.Run.{playing, clipAt}
-use Rattle.standing.specs.declared.Spare.the-variants.{Time}
+use Rattle.workahead.specs.declared.Spare.the-variants.{Time}
 use Rattle.spare.specs.Answers.{workaheadOf, slackOf}
 use Rattle.spare.specs.Laws.{Cushioned, Steady, Lightly}
 use Rattle.promises.specs.Files.{Shaped}

@@ -29,7 +29,7 @@ use Rattle.run.specs.declared.Underway.the-variants.{Nothing}
 use Rattle.run.specs.declared.Run.{Run}
 use Rattle.run.specs.Run.{noState}
 use Rattle.playback.specs.Answers.{passOf}
-use Rattle.standing.specs.declared.Spare.the-variants.{Time}
+use Rattle.workahead.specs.declared.Spare.the-variants.{Time}
 use Rattle.standing.specs.declared.Standing.{Standing}
 use Rattle.standing.specs.Times.{aheadAt, timeAt}
 use Rattle.standing.specs.Answers.{slackFor}

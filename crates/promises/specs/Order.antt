@@ -47,8 +47,9 @@ use Rattle.scheduler.specs.Answers.{chooseOf, choiceOutcome}
 use Rattle.standing.specs.declared.Standing.{Standing}
 use Rattle.standing.specs.Times.{slackTime}
 use Rattle.standing.specs.Standing.{Fit}
-use Rattle.standing.specs.Decisions.{Countable}
-use Rattle.standing.specs.Answers.{aheadFor, stoodOf, slackFor, spareOutcome}
+use Rattle.workahead.specs.Decisions.{Countable}
+use Rattle.workahead.specs.Answers.{aheadFor, spareOutcome}
+use Rattle.standing.specs.Answers.{stoodOf, slackFor}
 use Rattle.spare.specs.Answers.{workaheadOf, slackOf, startOf}
 
 -- ---- orders

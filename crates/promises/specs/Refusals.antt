@@ -43,10 +43,11 @@ use Rattle.player.specs.Answers.{drawnOf}
 use Rattle.playback.specs.Answers.{passOf, takeOf, finishOf}
 use Rattle.scheduler.specs.declared.Choice.the-variants as choice
 use Rattle.scheduler.specs.Answers.{chooseOf, choiceOutcome}
-use Rattle.standing.specs.declared.Spare.the-variants as spare
+use Rattle.workahead.specs.declared.Spare.the-variants as spare
 use Rattle.standing.specs.declared.Standing.{Standing}
 use Rattle.standing.specs.Standing.{noStanding}
-use Rattle.standing.specs.Answers.{aheadFor, stoodOf, slackFor, spareOutcome}
+use Rattle.workahead.specs.Answers.{aheadFor, spareOutcome}
+use Rattle.standing.specs.Answers.{stoodOf, slackFor}
 use Rattle.spare.specs.Answers.{workaheadOf, slackOf, startOf}
 
 -- one of these numbers

@@ -24,10 +24,11 @@ use Rattle.player.specs.Answers.{drawnOf}
 use Rattle.playback.specs.Answers.{passOf, takeOf, finishOf}
 use Rattle.scheduler.specs.declared.Choice.the-variants as choice
 use Rattle.scheduler.specs.Answers.{chooseOf}
-use Rattle.standing.specs.declared.Spare.the-variants as spare
-use Rattle.standing.specs.declared.Spare.the-variants.{Time}
+use Rattle.workahead.specs.declared.Spare.the-variants as spare
+use Rattle.workahead.specs.declared.Spare.the-variants.{Time}
 use Rattle.standing.specs.Standing.{placeIn, orderedBy}
-use Rattle.standing.specs.Answers.{aheadFor, stoodOf, slackFor}
+use Rattle.workahead.specs.Answers.{aheadFor}
+use Rattle.standing.specs.Answers.{stoodOf, slackFor}
 use Rattle.spare.specs.Answers.{workaheadOf, slackOf, startOf}
 use Rattle.promises.specs.Numbers.{X, buffered, clip, showOf, places, runOf, loaded, eighth, eighthBy, uneven, clocked}
 

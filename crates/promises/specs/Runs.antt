@@ -22,7 +22,7 @@ use Rattle.player.specs.Answers.{drawnOf}
 use Rattle.playback.specs.Answers.{passOf, takeOf, finishOf}
 use Rattle.scheduler.specs.declared.Choice.the-variants as choice
 use Rattle.scheduler.specs.Answers.{chooseOf}
-use Rattle.standing.specs.declared.Spare.the-variants as spare
+use Rattle.workahead.specs.declared.Spare.the-variants as spare
 use Rattle.standing.specs.Times.{aheadAt, timeAt}
 use Rattle.spare.specs.Answers.{workaheadOf, slackOf, startOf}
 

@@ -13,11 +13,12 @@ use Rattle.run.specs.declared.Underway.the-variants.{Nothing}
 use Rattle.run.specs.declared.Run.{Run}
 use Rattle.run.specs.Run.{playing, stateAt, clipAt, countAt, seatAt}
 use Rattle.run.specs.Sound.{SoundRun, NamesEach}
-use Rattle.standing.specs.declared.Spare.the-variants.{Time}
+use Rattle.workahead.specs.declared.Spare.the-variants.{Time}
 use Rattle.standing.specs.declared.Standing.{Standing}
 use Rattle.standing.specs.Times.{aheadAt, timeAt, placeAt}
 use Rattle.standing.specs.Standing.{spareIn}
-use Rattle.standing.specs.Answers.{aheadFor, stoodOf, slackFor}
+use Rattle.workahead.specs.Answers.{aheadFor}
+use Rattle.standing.specs.Answers.{stoodOf, slackFor}
 use Rattle.spare.specs.Answers.{workaheadOf, slackOf, startOf}
 use Rattle.spare.specs.Laws.{Started}
 use Rattle.promises.specs.Runs.{Sized}

@@ -21,9 +21,9 @@ use crate::shows::numbers_of;
 use show::Show;
 use show::refusal::Check;
 use show::refusal::Told;
-use standing::magnitude;
 use text::form::put_form;
 use text::hex::put_hex;
+use workahead::magnitude;
 
 // ---- short answers
 

@@ -11,7 +11,7 @@ use scheduler::Chosen;
 use show::Show;
 use show::refusal::Told;
 use spare::Spared;
-use standing::Spare;
+use workahead::Spare;
 
 // What a call answers, whether there is a run after it, and the run.
 pub(crate) struct Called {

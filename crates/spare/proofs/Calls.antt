@@ -28,10 +28,11 @@ use Rattle.run.proofs.Orders.{names-below}
 use Rattle.run.proofs.Answered.{damaged-first, sound-then}
 use Rattle.run.specs.declared.Moved.{Moved}
 use Rattle.run.proofs.Answered.{granted, refused, moved-refused, moved-granted}
-use Rattle.standing.specs.declared.Spare.{Spare}
-use Rattle.standing.specs.declared.Spare.the-variants as spare
+use Rattle.workahead.specs.declared.Spare.{Spare}
+use Rattle.workahead.specs.declared.Spare.the-variants as spare
 use Rattle.standing.specs.Standing.{standingOf}
-use Rattle.standing.specs.Answers.{aheadFor, slackFor}
+use Rattle.workahead.specs.Answers.{aheadFor}
+use Rattle.standing.specs.Answers.{slackFor}
 use Rattle.standing.proofs.Calls.{run-nobody, run-slack, run-ahead}
 use Rattle.spare.specs.declared.Spared.{Spared}
 use Rattle.standing.specs.Times.{aheadAt, slackTime, placeAt}

@@ -31,12 +31,12 @@ use Rattle.run.proofs.Lefts.{left-within}
 use Rattle.run.proofs.Steps.{nothing-read}
 use Rattle.run.proofs.Answered.{moved-either, moved-back, free-nothing}
 use Rattle.run.specs.declared.Moved.{Moved}
-use Rattle.standing.specs.declared.Spare.the-variants as spare
+use Rattle.workahead.specs.declared.Spare.the-variants as spare
 use Rattle.standing.specs.Times.{aheadAt, timeAt, slackTime, placeAt}
 use Rattle.spare.specs.Times.{startOrder, running}
 use Rattle.spare.specs.Answers.{spared, workaheadOf, someCheck, slackOf, onceCheck, slackCheck, startCheck, startOf}
 use Rattle.spare.specs.Laws.{Started}
-use Rattle.standing.proofs.Aheads.{ahead-floors, counting}
+use Rattle.workahead.proofs.Aheads.{ahead-floors, counting}
 use Rattle.standing.proofs.Orders.{named-length, named-above}
 use Rattle.spare.proofs.Calls.{start-names, start-first, start-begins, begin-granted}
 

@@ -19,9 +19,10 @@ use Rattle.verdict.specs.Answers.{setOf}
 use Rattle.run.specs.declared.State.{State}
 use Rattle.run.specs.declared.Run.{Run}
 use Rattle.run.specs.Run.{playing, clipAt, stateAt}
-use Rattle.standing.specs.Times.{aheadOf, aheadAt, timeAt, slackTime}
+use Rattle.workahead.specs.Times.{aheadOf}
+use Rattle.standing.specs.Times.{aheadAt, timeAt, slackTime}
 use Rattle.spare.specs.Laws.{Cushioned, Steady, Lightly}
-use Rattle.standing.proofs.Aheads.{ahead-floors, counting}
+use Rattle.workahead.proofs.Aheads.{ahead-floors, counting}
 
 module _ (a b : Run) (e : ℕ → ℕ) (h : Lightly a b e) where
   loads : Lighter (loadOf (a .show)) (loadOf (b .show)) e

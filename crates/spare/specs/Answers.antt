@@ -13,7 +13,7 @@ use Rattle.run.specs.Run.{playing}
 use Rattle.run.specs.Decisions.{false?, soundCheck}
 use Rattle.run.specs.Answers.{moved, presentCheck, freeCheck}
 use Rattle.run.specs.declared.Moved.{Moved}
-use Rattle.standing.specs.declared.Spare.the-variants as spare
+use Rattle.workahead.specs.declared.Spare.the-variants as spare
 use Rattle.standing.specs.Times.{aheadAt, slackTime}
 use Rattle.spare.specs.declared.Spared.{Spared}
 use Rattle.spare.specs.Times.{running}

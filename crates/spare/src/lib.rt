@@ -16,12 +16,12 @@ use run_test::Test;
 use run_test::test_run;
 use show::refusal::Check;
 use show::refusal::Refusal;
-use standing::Spare;
 use standing::Standing;
-use standing::ahead_of;
 use standing::order::ordered;
 use standing::slack_in;
 use standing::stand;
+use workahead::Spare;
+use workahead::ahead_of;
 
 // The answer, and the run as it was given.
 pub struct Spared {

@@ -15,49 +15,19 @@ use Rattle.run.specs.declared.Run.{Run}
 use Rattle.run.specs.Run.{playing, stateAt, clipAt}
 use Rattle.run.specs.Sound.{SoundRun}
 use Rattle.run.specs.Decisions.{sound?, soundCheck}
-use Rattle.standing.specs.declared.Spare.the-variants as spare
+use Rattle.workahead.specs.declared.Spare.the-variants as spare
+use Rattle.workahead.proofs.Calls.{timed-refused, timed-granted, time-refused, ahead-time}
 use Rattle.standing.specs.declared.Standing.{Standing}
 use Rattle.standing.specs.declared.Stood.{Stood}
-use Rattle.standing.specs.Times.{aheadOf, aheadAt, slackTime}
+use Rattle.workahead.specs.Times.{aheadOf}
+use Rattle.standing.specs.Times.{aheadAt, slackTime}
 use Rattle.standing.specs.Standing.{noStanding, standingOf, Fit, slackIn}
-use Rattle.standing.specs.Decisions.{Countable, countable?, fit?}
-use Rattle.standing.specs.Answers.{timed, playsCheck, countableCheck, aheadFor, stoodBy, stoodOf, fitCheck, someoneCheck, slackFor}
-use Rattle.standing.proofs.Aheads.{counting}
+use Rattle.workahead.specs.Decisions.{Countable, countable?}
+use Rattle.standing.specs.Decisions.{fit?}
+use Rattle.workahead.specs.Answers.{timed, playsCheck, countableCheck, aheadFor}
+use Rattle.standing.specs.Answers.{stoodBy, stoodOf, fitCheck, someoneCheck, slackFor}
+use Rattle.workahead.proofs.Aheads.{counting}
 use Rattle.standing.proofs.Standings.{standing-fit, slack-in}
-
--- ---- by the check
-
-module _ (k : Check) (z : ℤ) where
-  timed-refused : (w : Refusal) → k ≡ Refused w → spare.Refused w ≡ timed k z
-  timed-refused w e = ap (λ (x : Check). timed x z) (sym e)
-
-  timed-granted : (y : ℤ) → k ≡ Within → y ≡ z → spare.Time y ≡ timed k z
-  timed-granted y e f = ap spare.Time f ∙ ap (λ (x : Check). timed x z) (sym e)
-
-time-refused : {z : ℤ} {w : Refusal} → spare.Time z ≡ spare.Refused w → ⊥
-time-refused e = let z : _≡_ {A = ℕ} 0 1 = cc in let f : ⊥ = omega arith in f
-
--- ---- a workahead
-
-module _ (x : Session) (s : State) where
-  pub ahead-rateless : x .rate ≡ 0 → spare.Refused (refusal.SessionLimits 0) ≡ aheadFor x s
-  unfolding aheadFor
-  ahead-rateless e =
-      timed-refused _ _ (refusal.SessionLimits 0)
-      (first-refused _ (countableCheck s) (unless-broken (decLt 0 (x .rate)) (refusal.SessionLimits 0) (λ l. let f : ⊥ = omega arith in f)))
-
-  module _ (l : 0 < x .rate) where
-    rated : playsCheck x ≡ Within
-    rated = unless-kept (decLt 0 (x .rate)) (refusal.SessionLimits 0) l
-
-    pub ahead-uncountable : (Countable s → ⊥) → spare.Refused refusal.Damaged ≡ aheadFor x s
-    unfolding aheadFor
-    ahead-uncountable n =
-        timed-refused _ _ refusal.Damaged (first-within (playsCheck x) _ rated ∙ unless-broken (countable? s) refusal.Damaged n)
-
-    pub ahead-time : (z : ℤ) → Countable s → z ≡ aheadOf x s → spare.Time z ≡ aheadFor x s
-    unfolding aheadFor
-    ahead-time z c e = timed-granted _ _ z (first-within (playsCheck x) _ rated ∙ unless-kept (countable? s) refusal.Damaged c) e
 
 -- ---- a standing
 

@@ -14,22 +14,14 @@ use Rattle.show.proofs.Checks.{within-refused, unless-within, first-left, first
 use Rattle.run.specs.declared.State.{State}
 use Rattle.run.specs.declared.Run.{Run}
 use Rattle.run.specs.Decisions.{soundCheck}
-use Rattle.standing.specs.declared.Spare.the-variants as spare
+use Rattle.workahead.specs.declared.Spare.the-variants as spare
+use Rattle.workahead.proofs.Laws.{time-told}
 use Rattle.standing.specs.declared.Standing.{Standing}
 use Rattle.standing.specs.declared.Stood.{Stood}
-use Rattle.standing.specs.Times.{aheadOf}
+use Rattle.workahead.specs.Times.{aheadOf}
 use Rattle.standing.specs.Standing.{noStanding, standingOf, slackIn}
-use Rattle.standing.specs.Answers.{timed, playsCheck, countableCheck, aheadFor, stoodBy, stoodOf, fitCheck, someoneCheck, slackFor}
-
-time-told : (k : Check) (z y : ℤ) → timed k z ≡ spare.Time y → (k ≡ Within) × (y ≡ z)
-time-told Within z y e = (refl, (let f : z ≡ y = cc in sym f))
-time-told (Refused w) z y e = absurd (let z : _≡_ {A = ℕ} 0 1 = cc in let f : ⊥ = omega arith in f)
-
-pub ahead-told : (x : Session) (s : State) (y : ℤ) → aheadFor x s ≡ spare.Time y → (0 < x .rate) × (y ≡ aheadOf x s)
-unfolding aheadFor
-ahead-told x s y e =
-    let t = time-told (first (playsCheck x) (countableCheck s)) (aheadOf x s) y e in
-    (unless-within (decLt 0 (x .rate)) (refusal.SessionLimits 0) (first-left (playsCheck x) (countableCheck s) (t .0)), t .1)
+use Rattle.workahead.specs.Answers.{timed, playsCheck, countableCheck, aheadFor}
+use Rattle.standing.specs.Answers.{stoodBy, stoodOf, fitCheck, someoneCheck, slackFor}
 
 pub slack-told : (s : Standing) (y : ℤ) → slackFor s ≡ spare.Time y → (0 < s .playing) × (y ≡ slackIn s)
 unfolding slackFor

@@ -1,5 +1,3 @@
-pub mod Truncated
-pub mod Aheads
 pub mod Orders
 pub mod Standings
 pub mod Seats

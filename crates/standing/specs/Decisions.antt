@@ -1,23 +1,14 @@
--- Whether a state, and a standing, can be worked with is told: yes with the proof, or no with the proof that it cannot. The types say all.
-use Prim.Native.Nat.{_*_, _^_, _≤_}
+-- Whether a standing can be worked with is told: yes with the proof, or no with the proof that it cannot. The types say all.
+use Prim.Native.Nat.{_^_}
 use mathlib.Core.Logic.{Dec·and}
 use native.Mathlib.Decide.{decLe, decLt, ℕ-discrete}
 use lib.Signed.{mag}
 use Rattle.show.specs.Decisions.{decided}
 use Rattle.cost.specs.Bound.{worstMost}
 use Rattle.verdict.specs.Answers.{setOf}
-use Rattle.run.specs.declared.State.{State}
-use Rattle.run.specs.Run.{putMost}
 use Rattle.run.specs.Decisions.{when?, below?}
 use Rattle.standing.specs.declared.Standing.{Standing}
 use Rattle.standing.specs.Standing.{aheadIn, placeIn, Fit}
-
--- P and C within the limit on P: those of every run are.
-abbrev pub Countable : State → Type 0
-Countable s = (s .put ≤ putMost) × (s .clock ≤ putMost * 1000000)
-
-unfoldable pub countable? : (s : State) → Dec (Countable s)
-countable? s = Dec·and (decLe _ _) (decLe _ _)
 
 unfoldable pub fit? : (s : Standing) → Dec (Fit s)
 fit? s =

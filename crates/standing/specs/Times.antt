@@ -2,19 +2,14 @@
 use Prim.Native.Nat.{ℕ, zero, suc}
 use mathlib.Core.List.{List}
 use lib.ListN.{set}
-use lib.IntN.{ℤ, pos, _-ℤ_, _*ℤ_}
-use Rattle.show.specs.declared.Session.{Session}
-use Rattle.theory.specs.Floor.{floorZ}
+use lib.IntN.{ℤ}
 use Rattle.theory.specs.Slack.{rank, slack}
 use Rattle.theory.specs.Shows.{loadOf}
-use Rattle.run.specs.declared.State.{State}
 use Rattle.run.specs.declared.Run.{Run}
 use Rattle.run.specs.Run.{playing, stateAt, clipAt, countAt}
+use Rattle.workahead.specs.Times.{aheadOf}
 
--- workahead: ((P - Y) x 1,000,000 - C) / R in µs, rounded down
-abbrev pub aheadOf : Session → State → ℤ
-aheadOf x s = floorZ ((pos (s .put) -ℤ pos (x .cushion)) *ℤ pos 1000000 -ℤ pos (s .clock)) (x .rate)
-
+-- workahead of a session of a run
 abbrev pub aheadAt : Run → ℕ → ℤ
 aheadAt r i = aheadOf (clipAt r i) (stateAt r i)
 

@@ -1,34 +1,24 @@
 // How the sessions of a run stand to one another: the workahead of a state, the standing of a run, and what a standing in any order
 // has to spare. docs/RULES.md, section 10.
-mod ahead;
 mod fit;
 mod least;
 pub mod order;
 
 ghost use mathlib.Core.Path.{_≡_};
-ghost use lib.IntN.{natAbs};
 ghost use Rattle.run.specs.Sound.{SoundRun};
-ghost use Rattle.standing.specs.Standing.{noStanding, standingOf};
-ghost use Rattle.standing.specs.Answers.{aheadFor, stoodOf, slackFor};
-use crate::ahead::ahead;
-use crate::ahead::aheads;
+ghost use Rattle.standing.specs.Standing.{aheadsOf, noStanding, standingOf};
+ghost use Rattle.standing.specs.Answers.{stoodOf, slackFor};
 use crate::fit::is_fit;
 use crate::least::least;
 use crate::order::places;
 use run::Run;
-use run::State;
 use run_test::Test;
 use run_test::test_run;
-use show::Session;
 use show::refusal::Check;
 use show::refusal::Refusal;
 use verdict::tried;
-
-// A time in µs, which may be below zero, or why there is none.
-pub enum Spare {
-    Time(i64),
-    Refused(Refusal),
-}
+use workahead::Spare;
+use workahead::ahead_of;
 
 // The workahead, the worst time and the place of each session.
 pub struct Standing {
@@ -42,33 +32,6 @@ pub struct Standing {
 pub struct Stood {
     pub check: Check,
     pub standing: Standing,
-}
-
-// How many µs a time is, above zero or below.
-pub fn magnitude(t: i64) -> u64
-    ensures { λ r. ⌜ r ≡ natAbs t ⌝ }
-{
-    if t < 0 {
-        let below = (-1 - t) as u64;
-        return below + 1;
-    }
-    t as u64
-}
-
-// How far a session in this state is ahead of its player: 7 of a rate of 0, 19 of a state that no run has.
-pub fn ahead_of(session: Session, state: State) -> Spare
-    ensures { λ r. ⌜ r ≡ aheadFor session state ⌝ }
-{
-    if session.rate == 0 {
-        return Spare::Refused(Refusal::SessionLimits(0));
-    }
-    if State::PUT_MOST < state.put {
-        return Spare::Refused(Refusal::Damaged);
-    }
-    if State::PUT_MOST * 1_000_000 < state.clock {
-        return Spare::Refused(Refusal::Damaged);
-    }
-    Spare::Time(ahead(state, session))
 }
 
 // In increasing workahead: 19. The record is tested here, so that those who ask more of the standing need not test it again.
@@ -128,4 +91,22 @@ fn survey(run: Run) -> Standing
         times,
         places,
     }
+}
+
+// The workahead of each session, zeros above.
+fn aheads(run: Run) -> [i64; 16]
+    requires { ⌜ SoundRun run ⌝ }
+    ensures { λ r. ⌜ r ≡ aheadsOf run ⌝ }
+{
+    let show = run.show;
+    let mut aheads: [i64; 16] = [0; 16];
+    let mut i: usize = 0;
+    while i < show.playing {
+        let Spare::Time(ahead) = ahead_of(show.sessions[i], run.states[i]) else {
+            return aheads;
+        };
+        aheads[i] = ahead;
+        i += 1;
+    }
+    aheads
 }

@@ -15,8 +15,8 @@ use Rattle.run.specs.declared.State.{State}
 use Rattle.run.specs.declared.Run.{Run}
 use Rattle.run.specs.Run.{playing, stateAt, clipAt, putMost}
 use Rattle.run.specs.Sound.{SoundRun}
-use Rattle.standing.specs.Times.{aheadOf}
-use Rattle.standing.proofs.Truncated.{floor-most}
+use Rattle.workahead.specs.Times.{aheadOf}
+use Rattle.workahead.proofs.Truncated.{floor-most}
 
 -- (P - Y) x 1,000,000 - C as one difference
 ahead-is : (P Y C : ℕ) → (pos P -ℤ pos Y) *ℤ pos 1000000 -ℤ pos C ≡ subℕ (P * 1000000) (Y * 1000000 + C)

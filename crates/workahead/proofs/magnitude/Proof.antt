@@ -10,8 +10,8 @@ use mir.Facts.{toZ-ofZ}
 use mir.Val.{Fits, SFits}
 use mir.Syntax.{w64}
 use borrow.Author.Tests.{le-ltb, ltb-true}
-use Rattle.standing.proofs.magnitude.Statement.{statement}
-use Rattle.standing.proofs.magnitude.Tie as tie
+use Rattle.workahead.proofs.magnitude.Statement.{statement}
+use Rattle.workahead.proofs.magnitude.Tie as tie
 
 -- -1 - z of a z below zero, and its size
 below : (z : ℤ) → ltZ z (pos 0) ≡ true → negsuc 0 -ℤ z ≡ pos (mag z)

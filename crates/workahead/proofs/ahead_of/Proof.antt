@@ -4,9 +4,9 @@ use native.Mathlib.Omega.{arith}
 use borrow.Author.Needs.{needs}
 use mir.Syntax.{w64}
 use mir.Val.{toZ, ofZ}
-use Rattle.standing.proofs.Calls.{ahead-rateless, ahead-uncountable, ahead-time}
-use Rattle.standing.proofs.ahead_of.Statement.{statement}
-use Rattle.standing.proofs.ahead_of.Tie as tie
+use Rattle.workahead.proofs.Calls.{ahead-rateless, ahead-uncountable, ahead-time}
+use Rattle.workahead.proofs.ahead_of.Statement.{statement}
+use Rattle.workahead.proofs.ahead_of.Tie as tie
 
 returns : tie.Need-returns
 returns c = ahead-rateless _ _ (c .if1 .taken)

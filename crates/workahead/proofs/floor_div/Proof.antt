@@ -1,10 +1,10 @@
 -- `floor_div` rounds down. Assumes nothing.
 use mir.Facts.{toZ-ofZ}
 use Rattle.theory.proofs.Floor.{floor-floors}
-use Rattle.standing.proofs.Truncated.{small, quot-fits, rem-fits, floor-fits, truncated-low, truncated-even}
+use Rattle.workahead.proofs.Truncated.{small, quot-fits, rem-fits, floor-fits, truncated-low, truncated-even}
 use borrow.Author.Needs.{needs}
-use Rattle.standing.proofs.ahead.floor_div.Tie as tie
-use Rattle.standing.proofs.ahead.floor_div.Statement.{statement}
+use Rattle.workahead.proofs.floor_div.Tie as tie
+use Rattle.workahead.proofs.floor_div.Statement.{statement}
 
 cast-d : tie.Need-cast-d
 cast-d c = search needs

@@ -6,10 +6,10 @@ use mir.Syntax.{w64}
 use mir.Val.{toZ, ofZ}
 use mir.Facts.{toZ-ofZ, toZ-pos}
 use Rattle.theory.proofs.Floor.{floor-floors, floors-once}
-use Rattle.standing.proofs.Aheads.{AheadFits, ahead-fits}
+use Rattle.workahead.proofs.Aheads.{AheadFits, ahead-fits}
 use borrow.Author.Needs.{needs}
-use Rattle.standing.proofs.ahead.ahead.Tie as tie
-use Rattle.standing.proofs.ahead.ahead.Statement.{statement}
+use Rattle.workahead.proofs.ahead.Tie as tie
+use Rattle.workahead.proofs.ahead.Statement.{statement}
 
 put-is : (c : tie.Start) → toZ w64 (c .args .state .put) ≡ pos (c .args .state .put)
 put-is c = toZ-pos w64 (let p = c .pre .0 .0 in omega arith)
