@@ -1,15 +1,9 @@
 // Answers: the short ones as values, what is not as it must be, a show, and bytes. Each call that tells answers false where that failed.
 use crate::forms::BELOW;
-use crate::forms::BEYOND;
-use crate::forms::BUFFER;
 use crate::forms::FAULTS;
-use crate::forms::IDLE;
 use crate::forms::NEWLINE;
-use crate::forms::NONE;
 use crate::forms::NOTHING;
 use crate::forms::OK;
-use crate::forms::OVERLOAD;
-use crate::forms::READ;
 use crate::forms::REFUSED;
 use crate::forms::VALUE;
 use crate::forms::either;
@@ -27,55 +21,41 @@ use workahead::magnitude;
 
 // ---- short answers
 
-pub(crate) enum Answer {
-    Granted,
-    Idle,
-    None,
-    Overload,
-    Beyond,
-    Read(usize),
-    Value(i64),
-    Size(u64),
-    Buffer(usize, u64),
-    Refused(Told),
+// A form and the numbers in it.
+pub(crate) struct Said {
+    pub form: usize,
+    pub a: u64,
+    pub b: u64,
 }
 
-struct Said {
-    form: usize,
-    a: u64,
-    b: u64,
-}
-
-fn said_as(form: usize, a: u64, b: u64) -> Said {
+pub(crate) fn said_as(form: usize, a: u64, b: u64) -> Said {
     Said { form, a, b }
 }
 
-fn said_of(answer: Answer) -> Said {
-    match answer {
-        Answer::Granted => said_as(OK, 0, 0),
-        Answer::Idle => said_as(IDLE, 0, 0),
-        Answer::None => said_as(NONE, 0, 0),
-        Answer::Overload => said_as(OVERLOAD, 0, 0),
-        Answer::Beyond => said_as(BEYOND, 0, 0),
-        Answer::Read(session) => said_as(READ, session as u64, 0),
-        Answer::Value(t) => value_said(t),
-        Answer::Size(n) => said_as(VALUE, n, 0),
-        Answer::Buffer(session, size) => said_as(BUFFER, session as u64, size),
-        Answer::Refused(told) => said_as(REFUSED, told.number as u64, told.place as u64),
+pub(crate) fn refused_as(told: Told) -> Said {
+    Said {
+        form: REFUSED,
+        a: told.number as u64,
+        b: told.place as u64,
     }
 }
 
 // A time may be below zero.
-fn value_said(t: i64) -> Said {
-    if t < 0 {
-        return said_as(BELOW, magnitude(t), 0);
+pub(crate) fn value_said(t: i64) -> Said {
+    Said {
+        form: either(t < 0, BELOW, VALUE),
+        a: magnitude(t),
+        b: 0,
     }
-    said_as(VALUE, magnitude(t), 0)
 }
 
-pub(crate) fn tell_answer(answer: Answer) -> bool {
-    let said = said_of(answer);
-    tell(said.form, said.a, said.b, 0, 0)
+// The answer, and the end of its line.
+pub(crate) fn tell_answer(said: Said, faults: u64) -> bool {
+    tell(said.form, said.a, said.b, 0, 0) && end(faults)
+}
+
+pub(crate) fn tell_refused(told: Told, faults: u64) -> bool {
+    tell(REFUSED, told.number as u64, told.place as u64, 0, 0) && end(faults)
 }
 
 // The number of a refusal and its place; zeros for none.
@@ -93,11 +73,12 @@ pub(crate) fn alike(a: Told, b: Told) -> bool {
     a.number == b.number && a.place == b.place
 }
 
-pub(crate) fn answer_of(told: Told) -> Answer {
-    if told.number == 0 {
-        return Answer::Granted;
+pub(crate) fn answer_of(told: Told) -> Said {
+    Said {
+        form: either(told.number == 0, OK, REFUSED),
+        a: told.number as u64,
+        b: told.place as u64,
     }
-    Answer::Refused(told)
 }
 
 // ---- what is not as it must be: a bit for each word from `FAULTS` on

@@ -1,9 +1,16 @@
 // The calls on a run, and what each answers.
-use crate::answers::Answer;
+use crate::answers::Said;
 use crate::answers::answer_of;
+use crate::answers::refused_as;
+use crate::answers::said_as;
 use crate::answers::told_of;
+use crate::answers::value_said;
 use crate::asked::Asked;
 use crate::asked::Word;
+use crate::fields::poke;
+use crate::forms::IDLE;
+use crate::forms::OK;
+use crate::forms::READ;
 use run::Moved;
 use run::Run;
 use scheduler::Choice;
@@ -15,12 +22,38 @@ use workahead::Spare;
 
 // What a call answers, whether there is a run after it, and the run.
 pub(crate) struct Called {
-    pub answer: Answer,
+    pub answer: Said,
     pub opened: bool,
     pub run: Run,
 }
 
-pub(crate) fn call(asked: Asked, run: Run) -> Called {
+// The run after a line; one that is no call answers nothing, and what stands for its answer is not told.
+pub(crate) fn run_after(asked: Asked, show: Show, refused: Told, run: Run, kept: Run) -> Called {
+    let word = asked.word;
+    match word {
+        Word::Pass
+        | Word::Take
+        | Word::Choose
+        | Word::Finish
+        | Word::Workahead
+        | Word::Slack
+        | Word::Start => call(asked, run),
+        Word::Open => opened(show, refused),
+        Word::Poke => same_run(poke(run, asked.field, asked.index, asked.value)),
+        Word::Back => same_run(kept),
+        _ => same_run(run),
+    }
+}
+
+fn same_run(run: Run) -> Called {
+    Called {
+        answer: said_as(OK, 0, 0),
+        opened: true,
+        run,
+    }
+}
+
+fn call(asked: Asked, run: Run) -> Called {
     let word = asked.word;
     match word {
         Word::Pass => moved(playback::pass(run, asked.value)),
@@ -34,7 +67,7 @@ pub(crate) fn call(asked: Asked, run: Run) -> Called {
 }
 
 // A file that was refused is not opened: what reading it said stands. Refused, there is no run.
-pub(crate) fn opened(show: Show, refused: Told) -> Called {
+fn opened(show: Show, refused: Told) -> Called {
     let m = run::open(show);
     let check = m.check;
     let run = m.run;
@@ -69,11 +102,11 @@ fn chosen(c: Chosen) -> Called {
     }
 }
 
-fn choice_of(choice: Choice) -> Answer {
+fn choice_of(choice: Choice) -> Said {
     match choice {
-        Choice::Idle => Answer::Idle,
-        Choice::Read(session) => Answer::Read(session),
-        Choice::Refused(why) => Answer::Refused(why.told()),
+        Choice::Idle => said_as(IDLE, 0, 0),
+        Choice::Read(session) => said_as(READ, session as u64, 0),
+        Choice::Refused(why) => refused_as(why.told()),
     }
 }
 
@@ -87,9 +120,9 @@ fn spared(s: Spared) -> Called {
     }
 }
 
-fn spare_of(spare: Spare) -> Answer {
+fn spare_of(spare: Spare) -> Said {
     match spare {
-        Spare::Time(t) => Answer::Value(t),
-        Spare::Refused(why) => Answer::Refused(why.told()),
+        Spare::Time(t) => value_said(t),
+        Spare::Refused(why) => refused_as(why.told()),
     }
 }

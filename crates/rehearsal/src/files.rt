@@ -1,14 +1,13 @@
 // Files that are read and written again, and shows that are written and read again, with every byte of the buffer that is lent.
 ghost use Prim.Native.Nat.{_≤_};
 ghost use lib.ListN.{length};
-use crate::answers::Answer;
 use crate::answers::CHANGED;
 use crate::answers::NOTE;
 use crate::answers::UNLIKE;
 use crate::answers::alike;
 use crate::answers::end;
-use crate::answers::tell_answer;
 use crate::answers::tell_bytes;
+use crate::answers::tell_refused;
 use crate::answers::tell_show;
 use crate::answers::told_of;
 use crate::answers::unless;
@@ -16,6 +15,7 @@ use crate::forms::CONTENTS;
 use crate::forms::COPIED;
 use crate::forms::DIFFERENT;
 use crate::forms::LENGTH;
+use crate::forms::REFUSED;
 use crate::forms::REREAD;
 use crate::forms::SPACE;
 use crate::forms::WROTE;
@@ -72,7 +72,7 @@ fn tell_read(file: &[u8]) -> bool {
     let show = got.show;
     let told = told_of(check);
     if told.number != 0 {
-        return tell_answer(Answer::Refused(told)) && end(unread_faults(told, file));
+        return tell_refused(told, unread_faults(told, file));
     }
     tell(CONTENTS, 0, 0, 0, 0) && tell_show(show) && tell_rest(file)
 }
@@ -166,7 +166,7 @@ fn tell_unwritten(told: Told, show: Show, note: &[u8], buffer: &mut [u8]) -> boo
     let got = reread(show, note, buffer);
     let second = got.check;
     let faults = unless(alike(told, told_of(second)), UNLIKE);
-    tell_answer(Answer::Refused(told))
+    tell(REFUSED, told.number as u64, told.place as u64, 0, 0)
         && tell(SPACE, 0, 0, 0, 0)
         && tell_bytes(buffer)
         && end(faults)

@@ -15,19 +15,24 @@ mod record;
 mod shows;
 mod texts;
 
-ghost use Prim.Native.Nat.{_+_, _≤_};
+ghost use Prim.Native.Nat.{_+_, _<_, _≤_};
 ghost use lib.ListN.{length};
 use crate::desk::Desk;
-use crate::desk::answers;
 use crate::desk::line;
 use crate::output::complain;
 use input::read_at;
+use parse::find;
 
-// The bytes at the start of the room that are no whole line yet, whether more may come, and the desk.
+// Where the next line stands in the room, `from` to `to`, and the bytes that are held after it, `next` to `end`. `idle`: there is none to
+// answer. `rest`: more of a line that fills the room is still to come. `more`: more may come.
 struct Turn {
-    held: usize,
+    from: usize,
+    to: usize,
+    next: usize,
+    end: usize,
+    idle: bool,
+    rest: bool,
     more: bool,
-    desk: Desk,
 }
 
 fn main() {
@@ -38,101 +43,98 @@ fn main() {
 // A proved loop has to end, and nothing says that a script does: so the turns are counted down, from a number that no script uses up.
 fn rehearse(room: &mut [u8]) {
     let mut turns = u64::MAX;
-    let mut turn = Turn {
-        held: 0,
-        more: true,
-        desk: Desk::new(),
-    };
-    while turns > 0 && turn.more {
-        turn = read_on(room, turn);
-        turns -= 1;
+    let mut desk = Desk::new();
+    let mut turn = read(0, false);
+    while turns > 0 {
+        turn = next_line(room, turn.next, turn.end, turn.rest);
+        let from = turn.from;
+        let to = turn.to;
+        desk = line(&room[from..to], turn.idle, desk);
+        turns = turns_left(turns, turn.more && !desk.lost);
     }
-    let desk = turn.desk;
     if desk.lost {
         complain(b"rehearsal: the answers could not be written\n");
     }
 }
 
-// Reads once, after the bytes that are held already.
-fn read_on(room: &mut [u8], turn: Turn) -> Turn
-    requires { ⌜ turn .held ≤ length (now room) ⌝ }
-    ensures { λ r. ⌜ r .held ≤ length (now (room .exit)) ⌝ }
+fn turns_left(turns: u64, more: bool) -> u64
+    requires { ⌜ 0 < turns ⌝ }
+    ensures { λ r. ⌜ r < turns ⌝ }
 {
-    let held = turn.held;
-    let desk = turn.desk;
+    if more {
+        return turns - 1;
+    }
+    0
+}
+
+// The next line that is whole; where there is none, what is held goes to the start of the room, and more is read.
+fn next_line(room: &mut [u8], from: usize, end: usize, rest: bool) -> Turn
+    requires { ⌜ (from ≤ end) × (end ≤ length (now room)) ⌝ }
+    ensures { λ r. ⌜ ((r .from ≤ r .to) × (r .to ≤ length (now (room .exit)))) × ((r .next ≤ r .end) × (r .end ≤ length (now (room .exit)))) ⌝ }
+{
+    let to = from + find(&room[from..end], b'\n');
+    if to < end {
+        return Turn {
+            from,
+            to,
+            next: to + 1,
+            end,
+            idle: rest,
+            rest: false,
+            more: true,
+        };
+    }
+    let left = end - from;
+    to_front(room, from, left);
+    read_on(room, left, rest)
+}
+
+// Reads once, after the bytes that are held. A line that fills the room is answered at once, and what still comes of it is passed over.
+fn read_on(room: &mut [u8], held: usize, rest: bool) -> Turn
+    requires { ⌜ held ≤ length (now room) ⌝ }
+    ensures { λ r. ⌜ ((r .from ≤ r .to) × (r .to ≤ length (now (room .exit)))) × ((r .next ≤ r .end) × (r .end ≤ length (now (room .exit)))) ⌝ }
+{
+    if held == room.len() {
+        return last(held, rest, true);
+    }
     let came = read_at(room, held);
+    if came.failed {
+        complain(b"rehearsal: standard input could not be read\n");
+    }
     if came.len == 0 {
-        if came.failed {
-            complain(b"rehearsal: standard input could not be read\n");
-        }
-        return Turn {
-            held: 0,
-            more: false,
-            desk: last_line(&room[0..held], desk),
-        };
+        return last(held, rest, false);
     }
-    took(room, held + came.len, desk)
+    read(held + came.len, rest)
 }
 
-// Answers every line that is whole by now, and keeps what is left at the start of the room.
-fn took(room: &mut [u8], end: usize, desk: Desk) -> Turn
-    requires { ⌜ end ≤ length (now room) ⌝ }
-    ensures { λ r. ⌜ r .held ≤ length (now (room .exit)) ⌝ }
+// All that is held is a line, but for none.
+fn last(held: usize, rest: bool, more: bool) -> Turn
+    ensures { λ r. ⌜ ((r .from ≤ r .to) × (r .to ≤ held)) × ((r .next ≤ r .end) × (r .end ≤ held)) ⌝ }
 {
-    let whole = whole_lines(&room[0..end]);
-    let desk = answers(&room[0..whole], desk);
-    let left = end - whole;
-    to_front(room, whole, left);
-    kept(room, left, desk)
-}
-
-// How many of the bytes are whole lines, newlines and all.
-fn whole_lines(bytes: &[u8]) -> usize
-    ensures { λ r. ⌜ r ≤ length (now (bytes .entry)) ⌝ }
-{
-    let mut n = bytes.len();
-    while n > 0 && bytes[n - 1] != b'\n' {
-        n -= 1;
-    }
-    n
-}
-
-// A line that fills the room is told at once, and the room is free again.
-fn kept(room: &[u8], left: usize, desk: Desk) -> Turn
-    requires { ⌜ left ≤ length (now room) ⌝ }
-    ensures { λ r. ⌜ r .held ≤ length (now (room .entry)) ⌝ }
-{
-    if left < room.len() {
-        return Turn {
-            held: left,
-            more: !desk.lost,
-            desk,
-        };
-    }
-    let desk = long_line(room, desk);
     Turn {
-        held: 0,
-        more: !desk.lost,
-        desk,
+        from: 0,
+        to: held,
+        next: 0,
+        end: 0,
+        idle: rest || held == 0,
+        rest: more,
+        more,
     }
 }
 
-// What still comes of it is passed over.
-fn long_line(bytes: &[u8], desk: Desk) -> Desk {
-    if desk.rest {
-        return desk;
+// No line yet.
+fn read(end: usize, rest: bool) -> Turn
+    ensures { λ r. ⌜ ((r .from ≤ r .to) × (r .to ≤ end)) × ((r .next ≤ r .end) × (r .end ≤ end)) ⌝ }
+{
+    Turn {
+        from: 0,
+        to: 0,
+        next: 0,
+        end,
+        idle: true,
+        rest,
+        more: true,
     }
-    let mut next = line(bytes, desk);
-    next.rest = true;
-    next
-}
-
-// A last line without a newline.
-fn last_line(bytes: &[u8], desk: Desk) -> Desk {
-    if bytes.len() == 0 {
-        return desk;
-    }
-    line(bytes, desk)
 }
 
 // The bytes from `from` on come to the start.

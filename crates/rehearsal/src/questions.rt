@@ -1,9 +1,12 @@
 // Questions, which change nothing: what is told of their answers.
-use crate::answers::Answer;
 use crate::answers::BESIDE;
+use crate::answers::Said;
 use crate::answers::answer_of;
 use crate::answers::end;
+use crate::answers::refused_as;
+use crate::answers::said_as;
 use crate::answers::tell_answer;
+use crate::answers::tell_refused;
 use crate::answers::told_of;
 use crate::answers::unless;
 use crate::answers::zeros_from;
@@ -12,10 +15,15 @@ use crate::asked::Word;
 use crate::files::tell_file;
 use crate::files::tell_written;
 use crate::forms::ACCEPTED;
+use crate::forms::BEYOND;
+use crate::forms::BUFFER;
 use crate::forms::FAILS;
 use crate::forms::HOLDS;
+use crate::forms::NONE;
+use crate::forms::OVERLOAD;
 use crate::forms::SPACE;
 use crate::forms::STATE;
+use crate::forms::VALUE;
 use crate::forms::put_lists;
 use crate::forms::put_said;
 use crate::forms::tell;
@@ -42,15 +50,15 @@ use verdict::Verdict;
 pub(crate) fn about_show(line: &[u8], asked: Asked, show: Show, refused: Told) -> bool {
     let word = asked.word;
     if refused.number != 0 {
-        return tell_answer(Answer::Refused(refused)) && end(0);
+        return tell_refused(refused, 0);
     }
     match word {
-        Word::Why | Word::Load | Word::Worst => tell_answer(short_answer(asked, show)) && end(0),
+        Word::Why | Word::Load | Word::Worst => tell_answer(short_answer(asked, show), 0),
         _ => long_answer(line, asked, show),
     }
 }
 
-fn short_answer(asked: Asked, show: Show) -> Answer {
+fn short_answer(asked: Asked, show: Show) -> Said {
     let word = asked.word;
     match word {
         Word::Why => reason_of(reason::why(show)),
@@ -59,27 +67,27 @@ fn short_answer(asked: Asked, show: Show) -> Answer {
     }
 }
 
-fn reason_of(why: Reason) -> Answer {
+fn reason_of(why: Reason) -> Said {
     match why {
-        Reason::None => Answer::None,
-        Reason::Overload => Answer::Overload,
-        Reason::Beyond => Answer::Beyond,
-        Reason::Buffer { session, size } => Answer::Buffer(session, size),
-        Reason::Refused(w) => Answer::Refused(w.told()),
+        Reason::None => said_as(NONE, 0, 0),
+        Reason::Overload => said_as(OVERLOAD, 0, 0),
+        Reason::Beyond => said_as(BEYOND, 0, 0),
+        Reason::Buffer { session, size } => said_as(BUFFER, session as u64, size),
+        Reason::Refused(w) => refused_as(w.told()),
     }
 }
 
-fn load_of(load: Loaded) -> Answer {
+fn load_of(load: Loaded) -> Said {
     match load {
-        Loaded::Tenths(n) => Answer::Size(n),
-        Loaded::Refused(w) => Answer::Refused(w.told()),
+        Loaded::Tenths(n) => said_as(VALUE, n, 0),
+        Loaded::Refused(w) => refused_as(w.told()),
     }
 }
 
-fn worst_of(worst: Worst) -> Answer {
+fn worst_of(worst: Worst) -> Said {
     match worst {
-        Worst::Takes(t) => Answer::Size(t),
-        Worst::Refused(w) => Answer::Refused(w.told()),
+        Worst::Takes(t) => said_as(VALUE, t, 0),
+        Worst::Refused(w) => refused_as(w.told()),
     }
 }
 
@@ -105,7 +113,8 @@ fn tell_take(given: Taking) -> bool {
     let drawn = player::take_lent(state, session, given.started, given.bytes);
     let check = drawn.check;
     let after = drawn.state;
-    tell_answer(answer_of(told_of(check)))
+    let said = answer_of(told_of(check));
+    tell(said.form, said.a, said.b, 0, 0)
         && tell(STATE, after.put, after.taken, after.clock, 0)
         && end(0)
 }
@@ -118,8 +127,7 @@ struct Table {
     form: usize,
     first: usize,
     round: u64,
-    counts: [u32; 16],
-    times: [u64; 16],
+    lists: [u64; 32],
 }
 
 fn decided(show: Show) -> Table {
@@ -132,8 +140,7 @@ fn decided(show: Show) -> Table {
         form: ACCEPTED,
         first: 0,
         round: d.round,
-        counts,
-        times,
+        lists: lists_of(counts, times),
     }
 }
 
@@ -161,20 +168,17 @@ fn timed(form: usize, told: Told, round: u64, times: [u64; 16]) -> Table {
         form,
         first: 1,
         round,
-        counts: [0; 16],
-        times,
+        lists: lists_of([0; 16], times),
     }
 }
 
 // Refused, all else is zero.
 fn tell_table(used: usize, table: Table) -> bool {
-    let counts = table.counts;
-    let times = table.times;
     let told = table.told;
-    let lists = lists_of(counts, times);
+    let lists = table.lists;
     if told.number != 0 {
         let faults = unless(table.round == 0 && zeros_from(0, &lists), BESIDE);
-        return tell_answer(Answer::Refused(told)) && end(faults);
+        return tell_refused(told, faults);
     }
     let mut out = [0u8; 1024];
     let at = put_said(&mut out, 0, table.form, table.round, 0, 0, 0);

@@ -1,18 +1,54 @@
 // The show of a case: its file in hex, the hundred numbers that a script gives it by, and junk in its unused places.
 ghost use Prim.Native.Nat.{_<_};
+use crate::answers::told_of;
+use crate::asked::Word;
 use crate::given::BYTES;
 use crate::given::bytes_of;
 use crate::given::low;
+use crate::given::memory_of;
 use show::Layout;
 use show::Session;
 use show::Show;
+use show::refusal::Check;
+use show::refusal::Told;
 use showfile::Reading;
 
+// A show, and what reading its file was refused with, number 0 where it was read.
+pub(crate) struct Shown {
+    pub show: Show,
+    pub refused: Told,
+}
+
+// The show after a line.
+pub(crate) fn show_after(word: Word, operand: &[u8], show: Show, refused: Told) -> Shown {
+    match word {
+        Word::Show => file_of(operand),
+        Word::Memory => Shown {
+            show: memory_of(operand),
+            refused: told_of(Check::Within),
+        },
+        Word::Junk => Shown {
+            show: junked(show),
+            refused,
+        },
+        _ => Shown { show, refused },
+    }
+}
+
 // The file, read; a dash is an empty one.
-pub(crate) fn file_of(hex: &[u8]) -> Reading {
+fn file_of(hex: &[u8]) -> Shown {
     let mut file = [0u8; BYTES];
     let n = bytes_of(hex, &mut file);
-    showfile::read(&file[0..n])
+    shown_of(showfile::read(&file[0..n]))
+}
+
+fn shown_of(reading: Reading) -> Shown {
+    let check = reading.check;
+    let show = reading.show;
+    Shown {
+        show,
+        refused: told_of(check),
+    }
 }
 
 // ---- a hundred numbers in fours: the drive and the counts, eight layouts, sixteen sessions
@@ -122,7 +158,7 @@ fn session_of(four: Four) -> Session {
 
 // ---- unused places
 
-pub(crate) fn junked(show: Show) -> Show {
+fn junked(show: Show) -> Show {
     let mut next = show;
     let mut i = 0;
     while i < 16 {
