@@ -148,12 +148,14 @@ pub(crate) fn zeros_from(n: usize, lists: &[u64]) -> bool {
 
 // ---- a show, as a script gives it, and bytes
 
-pub(crate) fn tell_show(show: Show) -> bool {
+// After a form.
+pub(crate) fn tell_show(form: usize, show: Show) -> bool {
     let mut out = [0u8; 2048];
     let numbers = numbers_of(show);
+    let at = put_said(&mut out, 0, form, 0, 0, 0, 0);
     let at = put_form(
         &mut out,
-        0,
+        at,
         b"#,#,#,#;#,#,#,#;#,#,#,#;#,#,#,#;#,#,#,#;#,#,#,#;#,#,#,#;#,#,#,#;#,#,#,#;#,#,#,#;#,#,#,#;#,#,#,#;#,#,#,#;\
           #,#,#,#;#,#,#,#;#,#,#,#;#,#,#,#;#,#,#,#;#,#,#,#;#,#,#,#;#,#,#,#;#,#,#,#;#,#,#,#;#,#,#,#;#,#,#,#",
         &numbers,
@@ -161,9 +163,10 @@ pub(crate) fn tell_show(show: Show) -> bool {
     said(&out, at)
 }
 
-// In hex, a dash for none: as many as a buffer that a script lends.
-pub(crate) fn tell_bytes(bytes: &[u8]) -> bool {
-    let mut out = [0u8; 2 * BYTES];
-    let at = put_hex(&mut out, 0, bytes);
+// In hex, a dash for none, after a form: as many as a buffer that a script lends.
+pub(crate) fn tell_bytes(form: usize, a: u64, b: u64, bytes: &[u8]) -> bool {
+    let mut out = [0u8; 2 * BYTES + 128];
+    let at = put_said(&mut out, 0, form, a, b, 0, 0);
+    let at = put_hex(&mut out, at, bytes);
     said(&out, at)
 }

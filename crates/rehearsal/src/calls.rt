@@ -56,13 +56,20 @@ fn same_run(run: Run) -> Called {
 fn call(asked: Asked, run: Run) -> Called {
     let word = asked.word;
     match word {
-        Word::Pass => moved(playback::pass(run, asked.value)),
-        Word::Take => moved(playback::take(run, asked.index, asked.value)),
         Word::Choose => chosen(scheduler::choose(run)),
-        Word::Finish => moved(playback::finish(run, asked.value)),
         Word::Workahead => spared(spare::workahead(run, asked.value as usize)),
         Word::Slack => spared(spare::slack(run)),
-        _ => moved(spare::start(run)),
+        _ => moved(move_on(asked, run)),
+    }
+}
+
+fn move_on(asked: Asked, run: Run) -> Moved {
+    let word = asked.word;
+    match word {
+        Word::Pass => playback::pass(run, asked.value),
+        Word::Take => playback::take(run, asked.index, asked.value),
+        Word::Finish => playback::finish(run, asked.value),
+        _ => spare::start(run),
     }
 }
 

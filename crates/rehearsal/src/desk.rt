@@ -10,8 +10,8 @@ use crate::calls::run_after;
 use crate::forms::ERROR;
 use crate::forms::tell;
 use crate::output::say;
+use crate::questions::about_given;
 use crate::questions::about_show;
-use crate::questions::long_answer;
 use crate::record::record;
 use crate::shows::show_after;
 use parse::part;
@@ -198,7 +198,7 @@ fn answered(bytes: &[u8], asked: Asked, called: Called, show: Show, refused: Tol
             show,
             refused,
         ),
-        Word::File | Word::Report | Word::Explain | Word::Player => long_answer(bytes, asked, show),
+        Word::File | Word::Report | Word::Explain | Word::Player => about_given(bytes, asked),
         _ => end(0),
     }
 }

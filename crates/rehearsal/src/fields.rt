@@ -4,6 +4,7 @@ use crate::given::low;
 use crate::shows::numbers_of;
 use crate::shows::show_of;
 use run::Run;
+use run::State;
 use run::Underway;
 
 // The first fields of the show, of its layouts, of its sessions, and of the run's lists.
@@ -76,14 +77,21 @@ fn with_listed(run: Run, list: usize, i: usize, value: u64) -> Run
     requires { ⌜ i < 16 ⌝ }
 {
     let mut next = run;
-    let mut state = run.states[i];
+    let state = run.states[i];
     match list {
         0 => next.counts[i] = low(value),
-        1 => state.put = value,
-        2 => state.taken = value,
-        3 => state.clock = value,
-        _ => next.order[i] = low(value),
+        4 => next.order[i] = low(value),
+        _ => next.states[i] = state_with(state, list, value),
     }
-    next.states[i] = state;
+    next
+}
+
+fn state_with(state: State, list: usize, value: u64) -> State {
+    let mut next = state;
+    match list {
+        1 => next.put = value,
+        2 => next.taken = value,
+        _ => next.clock = value,
+    }
     next
 }

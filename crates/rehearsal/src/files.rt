@@ -15,9 +15,9 @@ use crate::forms::CONTENTS;
 use crate::forms::COPIED;
 use crate::forms::DIFFERENT;
 use crate::forms::LENGTH;
-use crate::forms::REFUSED;
 use crate::forms::REREAD;
 use crate::forms::SPACE;
+use crate::forms::UNWRITTEN;
 use crate::forms::WROTE;
 use crate::forms::at_most;
 use crate::forms::either;
@@ -74,11 +74,11 @@ fn tell_read(file: &[u8]) -> bool {
     if told.number != 0 {
         return tell_refused(told, unread_faults(told, file));
     }
-    tell(CONTENTS, 0, 0, 0, 0) && tell_show(show) && tell_rest(file)
+    tell_show(CONTENTS, show) && tell_rest(file)
 }
 
 fn tell_rest(file: &[u8]) -> bool {
-    tell(SPACE, 0, 0, 0, 0) && tell_bytes(showfile::note(file)) && tell_copies(file)
+    tell_bytes(SPACE, 0, 0, showfile::note(file)) && tell_copies(file)
 }
 
 // A refused file has no note and is not copied either.
@@ -158,7 +158,7 @@ fn tell_noted(show: Show, note: &[u8], buffer: &mut [u8]) -> bool {
     if told.number != 0 {
         return tell_unwritten(told, show, note, buffer);
     }
-    tell(WROTE, wrote.len as u64, 0, 0, 0) && tell_bytes(buffer) && tell_again(show, note, buffer)
+    tell_bytes(WROTE, wrote.len as u64, 0, buffer) && tell_again(show, note, buffer)
 }
 
 // A refused show is not written on the way to being read again either; the buffer is that after both calls.
@@ -166,10 +166,7 @@ fn tell_unwritten(told: Told, show: Show, note: &[u8], buffer: &mut [u8]) -> boo
     let got = reread(show, note, buffer);
     let second = got.check;
     let faults = unless(alike(told, told_of(second)), UNLIKE);
-    tell(REFUSED, told.number as u64, told.place as u64, 0, 0)
-        && tell(SPACE, 0, 0, 0, 0)
-        && tell_bytes(buffer)
-        && end(faults)
+    tell_bytes(UNWRITTEN, told.number as u64, told.place as u64, buffer) && end(faults)
 }
 
 // The show written into a fresh buffer and read again; zeros where that is refused.
@@ -177,5 +174,5 @@ fn tell_again(show: Show, note: &[u8], buffer: &mut [u8]) -> bool {
     fill(buffer);
     let got = reread(show, note, buffer);
     let again = got.show;
-    tell(REREAD, 0, 0, 0, 0) && tell_show(again) && tell(LENGTH, got.note as u64, 0, 0, 0) && end(0)
+    tell_show(REREAD, again) && tell(LENGTH, got.note as u64, 0, 0, 0)
 }

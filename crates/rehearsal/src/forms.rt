@@ -65,7 +65,9 @@ pub(crate) const BREAK: usize = 43;
 
 pub(crate) const FAULTS: usize = 44;
 
-pub(crate) const NOTHING: usize = 51;
+pub(crate) const UNWRITTEN: usize = 51;
+
+pub(crate) const NOTHING: usize = 52;
 
 // A form with up to four numbers.
 pub(crate) fn put_said(
@@ -83,10 +85,10 @@ pub(crate) fn put_said(
     let forms =
         b"error #\n|\n| -> | -> ok| -> idle| -> none| -> overload| -> beyond| -> read #| -> value #| -> value -#\
         | -> buffer # #| -> refused # #| -> accepted #| -> holds #| -> fails #| # # #| -> read | copy # same short # #\
-        | copy # differs short # #| -> wrote # | reread | #| | |= started=# place=# left=# under=-\
+        | copy # differs short # #| -> wrote # | reread | #\n| | |= started=# place=# left=# under=-\
         |= started=# place=# left=# under=#| M=| P=| G=| C=| O=| X=M#:#| X=P#:#| X=G#:#| X=C#:#| X=O#:#\
         |,M#:#|,P#:#|,G#:#|,C#:#|,O#:#| X=-\n|\\n| beside| changed| differs\
-        | granted| note| refused| unlike";
+        | granted| note| refused| unlike| -> refused # # ";
     put_form(out, at, part(forms, b'|', form), &[a, b, c, d])
 }
 

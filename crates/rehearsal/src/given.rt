@@ -88,18 +88,18 @@ pub(crate) struct Listed {
 // A hundred at most, with commas between, but for what stands after each fourth.
 fn list_of(text: &[u8], fourth: u8) -> Listed {
     let mut numbers = [0u64; 100];
-    let mut good = true;
+    let mut all = 0;
     let mut at = 0;
     let mut i = 0;
     while i < 100 && at <= text.len() {
         let item = item_at(text, at, mark(i, fourth));
         numbers[i] = item.value % NO_WORD;
-        good = good && item.value < NO_WORD;
+        all = all | item.value;
         at = item.next;
         i += 1;
     }
     Listed {
-        good: good && text.len() < at,
+        good: all < NO_WORD && text.len() < at,
         count: i,
         numbers,
     }

@@ -50,21 +50,25 @@ fn rehearse(room: &mut [u8]) {
         let from = turn.from;
         let to = turn.to;
         desk = line(&room[from..to], turn.idle, desk);
-        turns = turns_left(turns, turn.more && !desk.lost);
+        turns = turns_left(turns, turn.more, desk.lost);
     }
-    if desk.lost {
+    tell_lost(desk.lost);
+}
+
+fn tell_lost(lost: bool) {
+    if lost {
         complain(b"rehearsal: the answers could not be written\n");
     }
 }
 
-fn turns_left(turns: u64, more: bool) -> u64
+fn turns_left(turns: u64, more: bool, lost: bool) -> u64
     requires { ⌜ 0 < turns ⌝ }
     ensures { λ r. ⌜ r < turns ⌝ }
 {
-    if more {
-        return turns - 1;
+    if lost || !more {
+        return 0;
     }
-    0
+    turns - 1
 }
 
 // The next line that is whole; where there is none, what is held goes to the start of the room, and more is read.

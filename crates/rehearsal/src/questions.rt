@@ -54,7 +54,7 @@ pub(crate) fn about_show(line: &[u8], asked: Asked, show: Show, refused: Told) -
     }
     match word {
         Word::Why | Word::Load | Word::Worst => tell_answer(short_answer(asked, show), 0),
-        _ => long_answer(line, asked, show),
+        _ => long_answer(asked, part(line, b' ', 1), show),
     }
 }
 
@@ -93,14 +93,21 @@ fn worst_of(worst: Worst) -> Said {
 
 // ---- long answers
 
-pub(crate) fn long_answer(line: &[u8], asked: Asked, show: Show) -> bool {
+// With no show in memory.
+pub(crate) fn about_given(line: &[u8], asked: Asked) -> bool {
     let word = asked.word;
     let operand = part(line, b' ', 1);
     match word {
         Word::File => tell_file(operand),
         Word::Report => tell_text(Call::Report, operand),
         Word::Explain => tell_text(Call::Explain, operand),
-        Word::Player => tell_take(taking_of(line)),
+        _ => tell_take(taking_of(line)),
+    }
+}
+
+fn long_answer(asked: Asked, operand: &[u8], show: Show) -> bool {
+    let word = asked.word;
+    match word {
         Word::Decide => tell_table(show.playing, decided(show)),
         Word::Try => tell_table(show.playing, tried(show, counts_of(operand))),
         _ => tell_written(show, operand, asked.value as usize),
@@ -177,13 +184,19 @@ fn tell_table(used: usize, table: Table) -> bool {
     let told = table.told;
     let lists = table.lists;
     if told.number != 0 {
-        let faults = unless(table.round == 0 && zeros_from(0, &lists), BESIDE);
-        return tell_refused(told, faults);
+        return tell_refused(
+            told,
+            unless(table.round == 0, BESIDE) | unless(zeros_from(0, &lists), BESIDE),
+        );
     }
+    tell_lists(table.form, table.round, table.first, used, &lists)
+}
+
+fn tell_lists(form: usize, round: u64, first: usize, used: usize, lists: &[u64]) -> bool {
     let mut out = [0u8; 1024];
-    let at = put_said(&mut out, 0, table.form, table.round, 0, 0, 0);
-    let at = put_lists(&mut out, at, SPACE, table.first, 2, used, &lists);
-    said(&out, at) && end(unless(zeros_from(used, &lists), BESIDE))
+    let at = put_said(&mut out, 0, form, round, 0, 0, 0);
+    let at = put_lists(&mut out, at, SPACE, first, 2, used, lists);
+    said(&out, at) && end(unless(zeros_from(used, lists), BESIDE))
 }
 
 fn lists_of(counts: [u32; 16], times: [u64; 16]) -> [u64; 32] {

@@ -108,6 +108,7 @@ fn four_of(show: Show, i: usize) -> Four
     }
 }
 
+// There are half as many layouts as sessions.
 pub(crate) fn show_of(numbers: [u64; 100]) -> Show {
     let mut show = Show::nothing();
     let head = four_at(numbers, 0);
@@ -117,9 +118,7 @@ pub(crate) fn show_of(numbers: [u64; 100]) -> Show {
     show.playing = head.d as usize;
     let mut i = 0;
     while i < 16 {
-        if i < 8 {
-            show.layouts[i] = layout_of(four_at(numbers, 1 + i));
-        }
+        show.layouts[i / 2] = layout_of(four_at(numbers, 1 + i / 2));
         show.sessions[i] = session_of(four_at(numbers, 9 + i));
         i += 1;
     }

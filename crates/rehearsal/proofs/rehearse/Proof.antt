@@ -8,11 +8,11 @@ use Rattle.rehearsal.proofs.rehearse.Statement.{statement}
 use Rattle.rehearsal.proofs.rehearse.Tie as tie
 
 abbrev Inv-loop : tie.InvT-loop
-Inv-loop room₀ turns₀ desk₀ turn₀ t7 room turns desk turn =
+Inv-loop room₀ turns₀ desk₀ turn₀ room turns desk turn =
     ((turn .next ≤ turn .end) × (turn .end ≤ length room)) × (length room ≡ length room₀)
 
 abbrev μ-loop : tie.MeasureT-loop
-μ-loop room₀ turns₀ desk₀ turn₀ t7 room turns desk turn = turns
+μ-loop room₀ turns₀ desk₀ turn₀ room turns desk turn = turns
 
 pub rehearse-spec : {M : Type 1} → statement M
 rehearse-spec =
@@ -31,9 +31,6 @@ rehearse-spec =
     (λ c κs. search needs)
     (λ c. search needs)
     (λ c. search needs)
-    (λ c. search needs)
     (λ c κs. search needs)
-    (λ c. search needs)
-    (λ c. search needs)
     (λ c. search needs)
     (λ c. search needs))
