@@ -69,10 +69,6 @@ pub(crate) fn told_of(check: Check) -> Told {
     why.told()
 }
 
-pub(crate) fn alike(a: Told, b: Told) -> bool {
-    a.number == b.number && a.place == b.place
-}
-
 pub(crate) fn answer_of(told: Told) -> Said {
     Said {
         form: either(told.number == 0, OK, REFUSED),
@@ -95,7 +91,7 @@ pub(crate) const NOTE: u64 = 16;
 
 pub(crate) const DENIED: u64 = 32;
 
-pub(crate) const UNLIKE: u64 = 64;
+const UNLIKE: u64 = 64;
 
 // The bit, where something is not as it must be.
 pub(crate) fn unless(right: bool, bit: u64) -> u64 {
@@ -103,6 +99,11 @@ pub(crate) fn unless(right: bool, bit: u64) -> u64 {
         return 0;
     }
     bit
+}
+
+// Where one is refused unlike the other.
+pub(crate) fn unlike(a: Told, b: Told) -> u64 {
+    unless(a.number == b.number, UNLIKE) | unless(a.place == b.place, UNLIKE)
 }
 
 // A word for each fault, and the end of the line.

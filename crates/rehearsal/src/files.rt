@@ -3,14 +3,13 @@ ghost use Prim.Native.Nat.{_≤_};
 ghost use lib.ListN.{length};
 use crate::answers::CHANGED;
 use crate::answers::NOTE;
-use crate::answers::UNLIKE;
-use crate::answers::alike;
 use crate::answers::end;
 use crate::answers::tell_bytes;
 use crate::answers::tell_refused;
 use crate::answers::tell_show;
 use crate::answers::told_of;
 use crate::answers::unless;
+use crate::answers::unlike;
 use crate::forms::CONTENTS;
 use crate::forms::COPIED;
 use crate::forms::DIFFERENT;
@@ -85,9 +84,7 @@ fn tell_rest(file: &[u8]) -> bool {
 fn unread_faults(told: Told, file: &[u8]) -> u64 {
     let note = showfile::note(file);
     let second = copied(file, file.len());
-    unless(note.len() == 0, NOTE)
-        | unless(alike(told, second.told), UNLIKE)
-        | unless(second.kept, CHANGED)
+    unless(note.len() == 0, NOTE) | unlike(told, second.told) | unless(second.kept, CHANGED)
 }
 
 // The file written again into a buffer of its length, and into one that is a byte shorter: this must be refused, and change nothing.
@@ -165,7 +162,7 @@ fn tell_noted(show: Show, note: &[u8], buffer: &mut [u8]) -> bool {
 fn tell_unwritten(told: Told, show: Show, note: &[u8], buffer: &mut [u8]) -> bool {
     let got = reread(show, note, buffer);
     let second = got.check;
-    let faults = unless(alike(told, told_of(second)), UNLIKE);
+    let faults = unlike(told, told_of(second));
     tell_bytes(UNWRITTEN, told.number as u64, told.place as u64, buffer) && end(faults)
 }
 

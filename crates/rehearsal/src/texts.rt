@@ -35,23 +35,30 @@ pub(crate) fn tell_text(call: Call, hex: &[u8]) -> bool {
     tell_asked(call, &file[0..n])
 }
 
-// Asked three times: with a buffer that is a byte too short, which is 16, with a long one, and with one that is just long enough.
+// Asked three times: with a long buffer, with one that is just long enough, and with one that is a byte too short, which is 16.
 fn tell_asked(call: Call, file: &[u8]) -> bool {
     let mut buffer = [0u8; LENT];
     let mut other = [0u8; LENT];
-    let least = least(call);
-    let short = asked_in(call, file, least - 1, &mut other);
     let long = asked_in(call, file, LENT, &mut buffer);
-    let just = asked_in(call, file, least, &mut other);
+    let just = asked_in(call, file, least(call), &mut other);
     let n = long.len;
-    let alike = same(&buffer, &other) && just.len == n;
-    tell(ARROW, 0, 0, 0, 0) && tell_lines(&buffer[0..n]) && end(faults_of(short, long, alike))
+    let faults = long_faults(long, just.len, same(&buffer, &other)) | short_faults(call, file);
+    tell(ARROW, 0, 0, 0, 0) && tell_lines(&buffer[0..n]) && end(faults)
 }
 
-fn faults_of(short: Text, long: Text, alike: bool) -> u64 {
-    let refused = unless(short.len == 0 && short.number == 16, GRANTED)
-        | unless(long.number == 0, DENIED);
-    refused | unless(short.kept && long.kept, CHANGED) | unless(alike, DIFFERS)
+fn long_faults(long: Text, just: usize, alike: bool) -> u64 {
+    unless(long.number == 0, DENIED)
+        | unless(long.kept, CHANGED)
+        | unless(long.len == just, DIFFERS)
+        | unless(alike, DIFFERS)
+}
+
+fn short_faults(call: Call, file: &[u8]) -> u64 {
+    let mut buffer = [0u8; LENT];
+    let short = asked_in(call, file, least(call) - 1, &mut buffer);
+    unless(short.len == 0, GRANTED)
+        | unless(short.number == 16, GRANTED)
+        | unless(short.kept, CHANGED)
 }
 
 fn ask(call: Call, file: &[u8], buffer: &mut [u8]) -> Written
