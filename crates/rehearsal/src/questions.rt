@@ -162,20 +162,26 @@ fn tried(show: Show, counts: [u32; 16]) -> Table {
     let t = verdict::tried(show, counts);
     let answer = t.answer;
     let times = t.times;
-    match answer {
-        verdict::Answer::Holds => timed(HOLDS, told_of(Check::Within), t.round, times),
-        verdict::Answer::Fails => timed(FAILS, told_of(Check::Within), t.round, times),
-        verdict::Answer::Refused(why) => timed(FAILS, why.told(), t.round, times),
+    Table {
+        told: told_on(answer),
+        form: form_on(answer),
+        first: 1,
+        round: t.round,
+        lists: lists_of([0; 16], times),
     }
 }
 
-fn timed(form: usize, told: Told, round: u64, times: [u64; 16]) -> Table {
-    Table {
-        told,
-        form,
-        first: 1,
-        round,
-        lists: lists_of([0; 16], times),
+fn told_on(answer: verdict::Answer) -> Told {
+    match answer {
+        verdict::Answer::Refused(why) => why.told(),
+        _ => told_of(Check::Within),
+    }
+}
+
+fn form_on(answer: verdict::Answer) -> usize {
+    match answer {
+        verdict::Answer::Holds => HOLDS,
+        _ => FAILS,
     }
 }
 

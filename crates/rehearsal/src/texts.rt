@@ -12,6 +12,7 @@ use crate::files::fill;
 use crate::files::filled;
 use crate::forms::ARROW;
 use crate::forms::BREAK;
+use crate::forms::either;
 use crate::forms::tell;
 use crate::given::BYTES;
 use crate::given::bytes_of;
@@ -43,7 +44,7 @@ fn tell_asked(call: Call, file: &[u8]) -> bool {
     let just = asked_in(call, file, least(call), &mut other);
     let n = long.len;
     let faults = long_faults(long, just.len, same(&buffer, &other)) | short_faults(call, file);
-    tell(ARROW, 0, 0, 0, 0) && tell_lines(&buffer[0..n]) && end(faults)
+    tell_lines(&buffer[0..n]) && end(faults)
 }
 
 fn long_faults(long: Text, just: usize, alike: bool) -> u64 {
@@ -105,10 +106,10 @@ fn asked_in(call: Call, file: &[u8], room: usize, buffer: &mut [u8]) -> Text
 
 fn tell_lines(text: &[u8]) -> bool {
     let n = parts(text, b'\n');
-    let mut good = say(part(text, b'\n', 0));
-    let mut k = 1;
+    let mut good = true;
+    let mut k = 0;
     while k < n && good {
-        good = tell(BREAK, 0, 0, 0, 0) && say(part(text, b'\n', k));
+        good = tell(either(k == 0, ARROW, BREAK), 0, 0, 0, 0) && say(part(text, b'\n', k));
         k += 1;
     }
     good
