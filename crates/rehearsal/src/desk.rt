@@ -160,7 +160,7 @@ fn taken(bytes: &[u8], asked: Asked, desk: Desk) -> Desk {
     let run = called.run;
     Desk {
         lines: desk.lines,
-        lost: !told(bytes, asked, called, show, refused),
+        lost: !answered(bytes, asked, called, show, refused),
         has: has_after(word, desk.has, called.opened),
         refused,
         show,
@@ -176,13 +176,12 @@ fn kept_after(word: Word, run: Run, kept: Run) -> Run {
     }
 }
 
-fn told(bytes: &[u8], asked: Asked, called: Called, show: Show, refused: Told) -> bool {
-    say(bytes) && answered(bytes, asked, called, show, refused)
-}
-
-// What a call answers, and the record after it; a question's answer; any other line just ends.
+// The line again; after it what a call answers, and the record; a question's answer; any other line just ends.
 fn answered(bytes: &[u8], asked: Asked, called: Called, show: Show, refused: Told) -> bool {
     let word = asked.word;
+    if !say(bytes) {
+        return false;
+    }
     match word {
         Word::Pass
         | Word::Take
