@@ -1,6 +1,5 @@
 // Text taken apart: the parts between marks, and the names that words are. specs/ says what each answer is.
 ghost use mathlib.Core.Path.{_≡_};
-ghost use mathlib.Core.List.{_++_};
 ghost use Prim.Native.Nat.{_≤_, _+_};
 ghost use lib.ListN.{length, take, drop};
 ghost use Rattle.show.specs.Limits.{Tells};

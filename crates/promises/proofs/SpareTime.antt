@@ -29,7 +29,6 @@ use Rattle.run.specs.declared.Moved.{Moved}
 use Rattle.run.proofs.Answered.{moved-check}
 use Rattle.run.proofs.Orders.{names-below}
 use Rattle.workahead.specs.declared.Spare.the-variants as spare
-use Rattle.standing.specs.declared.Standing.{Standing}
 use Rattle.standing.specs.Times.{aheadAt, timeAt, placeAt}
 use Rattle.standing.specs.Standing.{aheadIn, placeIn, spareIn}
 use Rattle.standing.specs.Answers.{stoodOf, slackFor}

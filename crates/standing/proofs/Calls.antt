@@ -10,7 +10,6 @@ use Rattle.show.specs.declared.refusal.Refusal.the-variants as refusal
 use Rattle.show.specs.declared.refusal.Check.{Check}
 use Rattle.show.specs.declared.refusal.Check.the-variants.{Within, Refused}
 use Rattle.show.proofs.Checks.{within-refused, unless-kept, unless-broken, unless-within, first-refused, first-within}
-use Rattle.run.specs.declared.State.{State}
 use Rattle.run.specs.declared.Run.{Run}
 use Rattle.run.specs.Run.{playing, stateAt, clipAt}
 use Rattle.run.specs.Sound.{SoundRun}
@@ -19,12 +18,10 @@ use Rattle.workahead.specs.declared.Spare.the-variants as spare
 use Rattle.workahead.proofs.Calls.{timed-refused, timed-granted, time-refused, ahead-time}
 use Rattle.standing.specs.declared.Standing.{Standing}
 use Rattle.standing.specs.declared.Stood.{Stood}
-use Rattle.workahead.specs.Times.{aheadOf}
 use Rattle.standing.specs.Times.{aheadAt, slackTime}
 use Rattle.standing.specs.Standing.{noStanding, standingOf, Fit, slackIn}
-use Rattle.workahead.specs.Decisions.{Countable, countable?}
 use Rattle.standing.specs.Decisions.{fit?}
-use Rattle.workahead.specs.Answers.{timed, playsCheck, countableCheck, aheadFor}
+use Rattle.workahead.specs.Answers.{timed, aheadFor}
 use Rattle.standing.specs.Answers.{stoodBy, stoodOf, fitCheck, someoneCheck, slackFor}
 use Rattle.workahead.proofs.Aheads.{counting}
 use Rattle.standing.proofs.Standings.{standing-fit, slack-in}

@@ -1,8 +1,7 @@
 -- A time that was told, and how it came about; refused, no standing. Assumes nothing.
-use Prim.Native.Nat.{ℕ, _<_}
-use mathlib.Core.Path.{_≡_, refl, sym, ap}
+use Prim.Native.Nat.{_<_}
+use mathlib.Core.Path.{_≡_, refl, ap}
 use native.Mathlib.Decide.{decLt}
-use native.Mathlib.Omega.{arith}
 use lib.IntN.{ℤ}
 use Rattle.show.specs.declared.Session.{Session}
 use Rattle.show.specs.declared.refusal.Refusal.{Refusal}
@@ -10,17 +9,14 @@ use Rattle.show.specs.declared.refusal.Refusal.the-variants as refusal
 use Rattle.show.specs.declared.refusal.Check.{Check}
 use Rattle.show.specs.declared.refusal.Check.the-variants.{Within, Refused}
 use Rattle.show.specs.Checks.{first}
-use Rattle.show.proofs.Checks.{within-refused, unless-within, first-left, first-right}
-use Rattle.run.specs.declared.State.{State}
+use Rattle.show.proofs.Checks.{within-refused, unless-within, first-right}
 use Rattle.run.specs.declared.Run.{Run}
 use Rattle.run.specs.Decisions.{soundCheck}
 use Rattle.workahead.specs.declared.Spare.the-variants as spare
 use Rattle.workahead.proofs.Laws.{time-told}
 use Rattle.standing.specs.declared.Standing.{Standing}
 use Rattle.standing.specs.declared.Stood.{Stood}
-use Rattle.workahead.specs.Times.{aheadOf}
 use Rattle.standing.specs.Standing.{noStanding, standingOf, slackIn}
-use Rattle.workahead.specs.Answers.{timed, playsCheck, countableCheck, aheadFor}
 use Rattle.standing.specs.Answers.{stoodBy, stoodOf, fitCheck, someoneCheck, slackFor}
 
 pub slack-told : (s : Standing) (y : ℤ) → slackFor s ≡ spare.Time y → (0 < s .playing) × (y ≡ slackIn s)

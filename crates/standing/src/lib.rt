@@ -1,5 +1,4 @@
-// How the sessions of a run stand to one another: the workahead of a state, the standing of a run, and what a standing in any order
-// has to spare. docs/RULES.md, section 10.
+// How the sessions of a run stand to one another, and what a standing in any order has to spare. docs/RULES.md, section 10.
 mod fit;
 mod least;
 pub mod order;

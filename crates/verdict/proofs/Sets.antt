@@ -1,10 +1,10 @@
 -- Sets as rows: the counts that a time asks for, the times of given counts, and whether those hold. Assumes nothing.
 use Prim.Native.Nat.{ℕ, _+_, _*_, _≤_, _<_}
-use mathlib.Core.Path.{_≡_, refl, sym, _∙_, ap, subst}
+use mathlib.Core.Path.{_≡_, sym, _∙_, ap, subst}
 use mathlib.Core.List.{List}
 use native.Mathlib.Omega.{arith}
 use native.Mathlib.Nat.{le-trans}
-use lib.ListN.{getD, set}
+use lib.ListN.{set}
 use borrow.Author.Count.{below-more}
 use Rattle.show.specs.declared.Show.{Show}
 use Rattle.show.specs.Limits.{ShowWithin, layoutAt, sessionAt}

@@ -1,6 +1,6 @@
 -- `time_of` answers U of a limited cost: neither product nor sum passes 64 bits. Assumes nothing.
 use Prim.Native.Nat.{ℕ, _+_, _*_}
-use mathlib.Core.Path.{_≡_, refl}
+use mathlib.Core.Path.{_≡_}
 use native.Mathlib.Omega.{arith}
 use borrow.Author.Needs.{needs}
 use Rattle.cost.specs.declared.Cost.{Cost}

@@ -1,7 +1,7 @@
 -- The words for each number; those for a number that the table has not are the same for all. Assumes nothing.
 use mathlib.Core.Path.{_≡_, refl, ap, _∙_}
 use mathlib.Core.List.{List, [], _∷_}
-use mathlib.Core.Logic.{ite, if-neg}
+use mathlib.Core.Logic.{if-neg}
 use Prim.Native.Nat.{ℕ}
 use native.Mathlib.Decide.{ℕ-discrete}
 use Rattle.show.specs.declared.refusal.Told.{Told}
