@@ -1,5 +1,7 @@
 // Reads a show file from standard input and writes what the desk says of it to standard output.
 // A failed read or write is told on standard error.
+#![tactic(auto)]
+
 use input::read_all;
 use libc::{STDERR_FILENO, STDOUT_FILENO};
 use report::TEXT_MOST;

@@ -1,4 +1,6 @@
 // The calls for C, C++ and Rust, over numbers and slices: include/chikchiro.h says how to make them.
+#![tactic(auto)]
+
 ghost use Rattle.std.specs.Prelude.{◌≡◌, ◌∷◌, [], ◌≤◌, ◌<◌, length};
 ghost use Rattle.show.specs.Refusals.{place_of};
 ghost use Rattle.showfile.specs.Bytes.{over};

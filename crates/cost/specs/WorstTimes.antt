@@ -1,6 +1,6 @@
 -- What asking for a worst time answers: docs/RULES.md, section 3.
 use Rattle.std.specs.Prelude.{ℕ, [], ◌∷◌, pos}
-use Rattle.std.proofs.Math.Logic.{Dec·and}
+use Rattle.std.proofs.Math.Logic.Dec
 use Rattle.std.proofs.Math.Decide.{dec_le, dec_lt}
 use Rattle.show.specs.declared.Show.{Show}
 use Rattle.show.specs.declared.refusal.Refusal.TheVariants.{DriveLimits, LayoutLimits, NoSession}
@@ -22,10 +22,10 @@ worst_answer (Refused w) t = worst.Refused w
 
 -- The limits of a cost are told, as those of a show are (`drive?` and its like).
 unfoldable pub limited? : (c : Cost) → Dec (Limited c)
-unfolding Dec·and dec_le
+unfolding Dec.and dec_le
 limited? c =
     decided (λ h. record { fixed = h.0; each = h.1.0; cross = h.1.1 }) (λ l. (l.fixed, (l.each, l.cross)))
-    (Dec·and (dec_le _ _) (Dec·and (dec_le _ _) (dec_le _ _)))
+    (Dec.and (dec_le _ _) (Dec.and (dec_le _ _) (dec_le _ _)))
 
 -- 5: N outside its limit
 abbrev pub cylinder_check : ℕ → Check

@@ -1,4 +1,6 @@
 // What an operation costs, and U, its worst time: docs/RULES.md, section 3. The laws of U stand in specs/Bound.
+#![tactic(auto)]
+
 pub mod worst;
 
 ghost use Rattle.std.specs.Prelude.{◌≡◌};
@@ -12,7 +14,7 @@ use show::Layout;
 use show::refusal::Refusal;
 
 // What an operation costs, in µs: once, for each block, for each cylinder edge.
-#[derive(Drop)]
+#[derive(Clone, Copy)]
 pub struct Cost {
     pub fixed: u64,
     pub each: u64,

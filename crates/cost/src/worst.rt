@@ -9,7 +9,7 @@ use show::refusal::{Check, Refusal};
 use show::{Drive, Show};
 
 // How long so many blocks take at worst, or why there is no answer.
-#[derive(Drop)]
+#[derive(Clone, Copy)]
 pub enum Worst {
     Takes(u64),
     Refused(Refusal),

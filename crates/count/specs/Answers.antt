@@ -1,6 +1,6 @@
 -- What asking for a count answers, and what has room in a buffer: docs/RULES.md, section 7.
 use Rattle.std.specs.Prelude.{ℕ, ◌+◌, ◌*◌, ◌%◌, ◌≤◌, ◌≡◌, [], ◌∷◌, pos}
-use Rattle.std.proofs.Math.Logic.{Dec·and}
+use Rattle.std.proofs.Math.Logic.Dec
 use Rattle.std.proofs.Math.Decide.{ℕ_discrete}
 use Rattle.show.specs.declared.Session.{Session}
 use Rattle.show.specs.declared.refusal.Refusal.TheVariants.{DriveLimits, SessionLimits}
@@ -24,9 +24,9 @@ abbrev pub RateWithin : ℕ → Type 0
 RateWithin R = Between 1 R rate_most
 
 unfoldable pub block? : (A : ℕ) → Dec (BlockWithin A)
-unfolding Dec·and between? ℕ_discrete
+unfolding Dec.and between? ℕ_discrete
 block? A =
-    decided (λ h. record { size = h.0; whole = h.1 }) (λ b. (b.size, b.whole)) (Dec·and (between? _ _ _) (ℕ_discrete _ _))
+    decided (λ h. record { size = h.0; whole = h.1 }) (λ b. (b.size, b.whole)) (Dec.and (between? _ _ _) (ℕ_discrete _ _))
 
 -- 5: A outside its limits
 abbrev pub block_check : ℕ → Check

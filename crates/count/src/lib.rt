@@ -1,4 +1,6 @@
 // How many blocks a session is asked for over a time, and whether its buffer takes them: docs/RULES.md, section 7.
+#![tactic(auto)]
+
 mod span;
 
 ghost use Rattle.std.specs.Prelude.{◌≡◌};
@@ -10,7 +12,7 @@ use show::refusal::Refusal;
 use show::{Drive, Session};
 
 // A count of blocks, or why there is none.
-#[derive(Drop)]
+#[derive(Clone, Copy)]
 pub enum Asked {
     Count(u64),
     Refused(Refusal),

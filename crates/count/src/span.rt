@@ -4,7 +4,7 @@ ghost use Rattle.show.specs.Limits.{rate_most};
 ghost use Rattle.count.specs.Spans.{span_of, Short, asked_of};
 
 // unit x whole + part
-#[derive(Drop)]
+#[derive(Clone, Copy)]
 pub(crate) struct Span {
     pub unit: u64,
     pub whole: u64,

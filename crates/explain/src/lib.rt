@@ -1,4 +1,6 @@
 // Why a show is refused, as a line and a sentence for the telephone, in a lent buffer. docs/RULES.md, section 11.
+#![tactic(auto)]
+
 mod line;
 
 ghost use Rattle.std.specs.Prelude.{◌≤◌, length};

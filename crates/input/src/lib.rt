@@ -1,10 +1,12 @@
 // Standard input, read into a lent room. What comes in no contract can say: they say where it stands, and what stays as it was.
+#![tactic(auto)]
+
 ghost use Rattle.std.specs.Prelude.{◌≡◌, true, ◌-◌, ◌≤◌, length, take};
 
 use libc::STDIN_FILENO;
 
 // How many bytes came, and whether a read failed.
-#[derive(Drop)]
+#[derive(Clone, Copy)]
 pub struct Came {
     pub len: usize,
     pub failed: bool,

@@ -4,6 +4,8 @@
 //   KIND TURNS SUM     SUM: the turns' numbers together, modulo 2^64
 //   error LINE, for a line that is not that, or whose show the kind can do nothing with
 // Each turn asks something a little different from the one before, so that none can be left out.
+#![tactic(auto)]
+
 mod files;
 mod runs;
 mod shows;
@@ -22,7 +24,7 @@ const FILE_MOST: usize = 1_428;
 // Longer than any file.
 const NO_BYTES: usize = 1_429;
 
-#[derive(Drop)]
+#[derive(Clone, Copy)]
 enum Kind {
     Empty,
     Read,

@@ -17,7 +17,7 @@ const IDLE: u64 = 1_000;
 const FIRST: usize = 64;
 
 // What a turn adds, and the run after it.
-#[derive(Drop)]
+#[derive(Clone, Copy)]
 struct Turn {
     sum: u64,
     run: Run,

@@ -1,4 +1,6 @@
 // Text taken apart: the parts between marks, and the names that words are. specs/ says what each answer is.
+#![tactic(auto)]
+
 ghost use Rattle.std.specs.Prelude.{◌≡◌, ◌≤◌, ◌+◌, length, take, drop};
 ghost use Rattle.show.specs.Limits.{Tells};
 ghost use Rattle.parse.specs.Parts.{find_of, parts_of, rest_of, part_of};

@@ -1,4 +1,6 @@
 // The numbers and bytes that a text spells. specs/ says what each answer is. Apart from `parse` for the gate's time alone.
+#![tactic(auto)]
+
 mod digits;
 
 ghost use Rattle.std.specs.Prelude.{◌≡◌, ◌++◌, ◌≤◌, ◌+◌, length, take, drop};
@@ -8,7 +10,7 @@ ghost use Rattle.parse_numbers.specs.Bytes.{bytes_of, count_of, put_of, list_of}
 use crate::digits::{byte, longer, pair};
 
 // A number, or none.
-#[derive(Drop)]
+#[derive(Clone, Copy)]
 pub enum Number {
     Is(u64),
     Not,

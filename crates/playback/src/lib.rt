@@ -1,5 +1,7 @@
 // What goes on in a run: time passes, players take, reads are finished. Each call tests the run record first, and hands the run back if it
 // refuses.
+#![tactic(auto)]
+
 mod cycle;
 
 ghost use Rattle.std.specs.Prelude.{◌≡◌, ◌*◌, ◌≤◌};

@@ -1,4 +1,6 @@
 // A player's side of a take: one session's state, and no run around it.
+#![tactic(auto)]
+
 ghost use Rattle.std.specs.Prelude.{◌≡◌};
 ghost use Rattle.player.specs.Answers.{drawn_of};
 
@@ -7,7 +9,7 @@ use show::refusal::{Check, Refusal};
 use state::State;
 
 // What a take answers, and the state after it: the next one, or the one that was given.
-#[derive(Drop)]
+#[derive(Clone, Copy)]
 pub struct Drawn {
     pub check: Check,
     pub state: State,

@@ -1,1 +1,3 @@
 // What is promised: theorems over the other crates, and no code.
+#![tactic(auto)]
+

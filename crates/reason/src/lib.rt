@@ -1,4 +1,6 @@
 // Why a show is refused with 8, and how loaded its drive is: docs/RULES.md, section 11.
+#![tactic(auto)]
+
 mod work;
 
 ghost use Rattle.std.specs.Prelude.{◌≡◌};
@@ -16,7 +18,7 @@ use show::{Session, Show};
 use verdict::Verdict;
 
 // None of an accepted show. Too small a buffer comes with the lowest session that has one, and with the size that it needs.
-#[derive(Drop)]
+#[derive(Clone, Copy)]
 pub enum Reason {
     None,
     Overload,
@@ -26,7 +28,7 @@ pub enum Reason {
 }
 
 // How much of its time the drive would have to work, in tenths of a per cent and rounded down; or why there is no answer.
-#[derive(Drop)]
+#[derive(Clone, Copy)]
 pub enum Loaded {
     Tenths(u64),
     Refused(Refusal),

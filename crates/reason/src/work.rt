@@ -9,14 +9,14 @@ use cost::Cost;
 use show::Show;
 
 // The sum of R x block time, and that of R x one-track seek.
-#[derive(Drop)]
+#[derive(Clone, Copy)]
 struct Sums {
     pub blocks: u64,
     pub edges: u64,
 }
 
 // The load is full x whole + part.
-#[derive(Drop)]
+#[derive(Clone, Copy)]
 pub(crate) struct Work {
     pub full: u64,
     pub whole: u64,

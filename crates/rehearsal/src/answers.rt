@@ -12,7 +12,7 @@ use workahead::magnitude;
 // ---- short answers
 
 // A form and the numbers in it.
-#[derive(Drop)]
+#[derive(Clone, Copy)]
 pub(crate) struct Said {
     pub form: usize,
     pub a: u64,

@@ -4,7 +4,7 @@ use crate::given::{are_counts, is_hex, is_note, is_number, is_show, number_from_
 use parse::{part, parts, place_in};
 
 // `Malformed` is a line that is none of these.
-#[derive(Drop)]
+#[derive(Clone, Copy)]
 pub(crate) enum Word {
     Malformed,
     Case,
@@ -37,7 +37,7 @@ pub(crate) enum Word {
 }
 
 // The last number of the line and the one before it, 2^32 where there is none; and the field of a poke.
-#[derive(Drop)]
+#[derive(Clone, Copy)]
 pub(crate) struct Asked {
     pub word: Word,
     pub index: usize,

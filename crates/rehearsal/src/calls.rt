@@ -11,7 +11,7 @@ use spare::Spared;
 use workahead::Spare;
 
 // What a call answers, whether there is a run after it, and the run.
-#[derive(Drop)]
+#[derive(Clone, Copy)]
 pub(crate) struct Called {
     pub answer: Said,
     pub opened: bool,

@@ -17,7 +17,7 @@ const LINE_MOST: usize = 65_535;
 
 // `begun`: a case is open. `failed`: a line was malformed, and the next case is waited for. `shown`, `opened`, `saved`: the case has a show,
 // a record, a remembered record.
-#[derive(Drop)]
+#[derive(Clone, Copy)]
 pub(crate) struct Has {
     pub begun: bool,
     pub failed: bool,
@@ -28,7 +28,7 @@ pub(crate) struct Has {
 
 // `lines`: the lines so far. `lost`: an answer could not be written.
 // `refused`: what reading the file was refused with, number 0 where it was read.
-#[derive(Drop)]
+#[derive(Clone, Copy)]
 pub(crate) struct Desk {
     pub lines: u64,
     pub lost: bool,
@@ -69,7 +69,7 @@ fn nothing(begun: bool, failed: bool) -> Has {
 
 // ---- lines
 
-#[derive(Drop)]
+#[derive(Clone, Copy)]
 enum Judged {
     Over,
     Malformed,

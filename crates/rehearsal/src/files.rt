@@ -94,7 +94,7 @@ fn less(n: usize) -> usize {
 }
 
 // What a copy into so much of a buffer was answered, whether it is the same as the file, and whether no byte was changed.
-#[derive(Drop)]
+#[derive(Clone, Copy)]
 struct Copying {
     len: usize,
     told: Told,

@@ -74,7 +74,7 @@ pub(crate) fn low(n: u64) -> u32 {
 // ---- lists of numbers of 32 bits
 
 // The numbers, how many there are, and whether they are all that there is.
-#[derive(Drop)]
+#[derive(Clone, Copy)]
 pub(crate) struct Listed {
     pub good: bool,
     pub count: usize,
@@ -102,7 +102,7 @@ fn list_of(text: &[u8], fourth: u8) -> Listed {
 }
 
 // A number and the place after the mark that ends it.
-#[derive(Drop)]
+#[derive(Clone, Copy)]
 struct Item {
     value: u64,
     next: usize,
@@ -160,7 +160,7 @@ pub(crate) fn counts_of(text: &[u8]) -> [u32; 16] {
 
 // ---- a player's take: P G C R Y B LAYOUT STARTED N
 
-#[derive(Drop)]
+#[derive(Clone, Copy)]
 pub(crate) struct Taking {
     pub state: State,
     pub session: Session,

@@ -1,6 +1,8 @@
 // Drives a run by a script: reads it from standard input and writes each line again, with what the call on it answers and the whole run
 // record after it (docs/SCRIPTS.md). A line that is none gets `error` and its number, and the script goes on with the next case.
 // A failed read or write is told on standard error.
+#![tactic(auto)]
+
 mod answers;
 mod asked;
 mod calls;
@@ -24,7 +26,7 @@ use parse::find;
 
 // Where the next line stands in the room, `from` to `to`, and the bytes that are held after it, `next` to `end`. `idle`: there is none to
 // answer. `rest`: more of a line that fills the room is still to come. `more`: more may come.
-#[derive(Drop)]
+#[derive(Clone, Copy)]
 struct Turn {
     from: usize,
     to: usize,

@@ -104,7 +104,7 @@ fn tell_take(given: Taking) -> bool {
 // ---- a decision or a trial
 
 // What it was refused with, number 0 where it was not; its form, and the first of its two lists that is told.
-#[derive(Drop)]
+#[derive(Clone, Copy)]
 struct Table {
     told: Told,
     form: usize,

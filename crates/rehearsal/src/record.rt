@@ -41,7 +41,7 @@ fn put_cycle(out: &mut [u8], run: Run) -> usize {
 }
 
 // Whether a read is under way, and on what session.
-#[derive(Drop)]
+#[derive(Clone, Copy)]
 struct Under {
     form: usize,
     session: u64,

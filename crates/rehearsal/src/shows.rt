@@ -9,7 +9,7 @@ use show::{Layout, Session, Show};
 use showfile::Reading;
 
 // A show, and what reading its file was refused with, number 0 where it was read.
-#[derive(Drop)]
+#[derive(Clone, Copy)]
 pub(crate) struct Shown {
     pub show: Show,
     pub refused: Told,
@@ -49,7 +49,7 @@ fn shown_of(reading: Reading) -> Shown {
 
 // ---- a hundred numbers in fours: the drive and the counts, eight layouts, sixteen sessions
 
-#[derive(Drop)]
+#[derive(Clone, Copy)]
 struct Four {
     a: u32,
     b: u32,

@@ -12,7 +12,7 @@ use showfile::Written;
 // Longer than any text.
 const LENT: usize = 640;
 
-#[derive(Drop)]
+#[derive(Clone, Copy)]
 pub(crate) enum Call {
     Report,
     Explain,
@@ -70,7 +70,7 @@ fn least(call: Call) -> usize
 }
 
 // The length of a text, the number that it was refused with, or 0, and whether every byte behind it is as it was.
-#[derive(Drop)]
+#[derive(Clone, Copy)]
 struct Text {
     len: usize,
     number: u32,

@@ -1,4 +1,6 @@
 // The calculator's answer to a show file, as text in a lent buffer. docs/RULES.md, section 8.
+#![tactic(auto)]
+
 ghost use Rattle.std.specs.Prelude.{◌≡◌, ◌+◌, ◌*◌, ◌≤◌, length};
 ghost use Rattle.theory.specs.Counts.{round_time};
 ghost use Rattle.theory.specs.Shows.{load_of};

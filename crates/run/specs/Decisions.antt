@@ -2,7 +2,7 @@
 -- below them need be believed.
 use Rattle.std.specs.Prelude.{ℕ, zero, suc, ◌<◌, ◌≡◌, refl, List, get_or}
 use Rattle.std.proofs.Common.{sym, subst, ◌∙◌, arith}
-use Rattle.std.proofs.Math.Logic.{Dec·and}
+use Rattle.std.proofs.Math.Logic.Dec
 use Rattle.std.proofs.Math.Decide.{dec_le, dec_lt, ℕ_discrete}
 use Rattle.show.specs.declared.Show.{Show}
 use Rattle.show.specs.declared.refusal.Refusal.TheVariants.{Damaged}
@@ -27,7 +27,7 @@ unfoldable pub below? : {p : ℕ → Type 0} → ((i : ℕ) → Dec (p i)) → (
 below? d zero = yes (λ i l. absurd (let f : ⊥ = omega arith in f))
 below? {p} d (suc n) =
     decided (λ h i l. last i l (dec_lt i n) h.0 h.1) (λ h. ((λ i l. h i (omega arith)), h n (omega arith)))
-    (Dec·and (below? d n) (d n))
+    (Dec.and (below? d n) (d n))
   where
     last : (i : ℕ) → i < suc n → Dec (i < n) → ((k : ℕ) → k < n → p k) → p n → p i
     last i l (yes m) h g = h i m
@@ -53,14 +53,14 @@ unfoldable pub show? : (s : Show) → Dec (ShowWithin s)
 show? s =
     decided (λ h. record { counts = h.0; drive = h.1.0; layouts = h.1.1.0; sessions = h.1.1.1 })
     (λ w. (w.counts, (w.drive, (w.layouts, w.sessions))))
-    (Dec·and (counts? _ _)
-    (Dec·and (drive? _) (Dec·and (below? (λ i. layout? (layout_at s i)) s.laid) (below? (λ i. session? s.laid (session_at s i)) s.playing))))
+    (Dec.and (counts? _ _)
+    (Dec.and (drive? _) (Dec.and (below? (λ i. layout? (layout_at s i)) s.laid) (below? (λ i. session? s.laid (session_at s i)) s.playing))))
 
 unfoldable pub good? : (l : Load) (m : ℕ → ℕ) → Dec (Good l m)
 good? l m =
     decided (λ h. record { counted = h.0; augmenting = h.1.0; feasible = h.1.1 })
     (λ g. (g.counted, (g.augmenting, g.feasible)))
-    (Dec·and (below? (λ i. dec_le _ _) l.playing) (Dec·and (below? (λ i. dec_lt _ _) l.playing) (below? (λ i. dec_le _ _) l.playing)))
+    (Dec.and (below? (λ i. dec_le _ _) l.playing) (Dec.and (below? (λ i. dec_lt _ _) l.playing) (below? (λ i. dec_le _ _) l.playing)))
 
 unfoldable pub named? : (order : List ℕ) (n i : ℕ) → Dec (NamedOnce order n i)
 named? order n i = from (some? (λ k. ℕ_discrete (get_or order k 0) i) n)
@@ -85,7 +85,7 @@ put? r i = dec_le _ _
 unfoldable pub may_read? : (r : Run) (i : ℕ) → Dec (MayRead r i)
 may_read? r i =
     decided (λ h. record { seat = h.0; room = h.1.0; put = h.1.1 }) (λ m. (m.seat, (m.room, m.put)))
-    (Dec·and (ℕ_discrete _ _) (Dec·and (room? r i) (put? r i)))
+    (Dec.and (ℕ_discrete _ _) (Dec.and (room? r i) (put? r i)))
 
 unfoldable pub underway? : (r : Run) (u : Underway) → Dec ((i : ℕ) → u ≡ Read i → MayRead r i)
 underway? r Nothing = yes (λ i e. absurd (let z : ◌≡◌ {A = ℕ} 0 1 = cc in let f : ⊥ = omega arith in f))
@@ -95,24 +95,24 @@ underway? r (Read k) =
 unfoldable pub cycle? : (r : Run) → Dec (CycleSound r)
 cycle? r =
     decided (λ h. record { empty = h.0; turning = h.1.0; underway = h.1.1 }) (λ c. (c.empty, (c.turning, c.underway)))
-    (Dec·and (when? (ℕ_discrete _ _) resting?) (Dec·and (when? (dec_lt _ _) turning?) (underway? r r.underway)))
+    (Dec.and (when? (ℕ_discrete _ _) resting?) (Dec.and (when? (dec_lt _ _) turning?) (underway? r r.underway)))
   where
     resting? : Dec (Resting r)
     resting? =
         decided (λ h. record { place = h.0; left = h.1.0; underway = h.1.1 }) (λ s. (s.place, (s.left, s.underway)))
-        (Dec·and (ℕ_discrete _ _) (Dec·and (ℕ_discrete _ _) (nothing? r.underway)))
+        (Dec.and (ℕ_discrete _ _) (Dec.and (ℕ_discrete _ _) (nothing? r.underway)))
 
     turning? : Dec (Turning r)
-    turning? = decided (λ h. record { place = h.0; left = h.1 }) (λ t. (t.place, t.left)) (Dec·and (dec_lt _ _) (between? _ _ _))
+    turning? = decided (λ h. record { place = h.0; left = h.1 }) (λ t. (t.place, t.left)) (Dec.and (dec_lt _ _) (between? _ _ _))
 
 unfoldable pub sound? : (r : Run) → Dec (SoundRun r)
 sound? r =
     decided (λ h. record { within = h.0; counts = h.1.0; states = h.1.1.0; order = h.1.1.1.0; cycle = h.1.1.1.1 })
     (λ s. (s.within, (s.counts, (s.states, (s.order, s.cycle)))))
-    (Dec·and (show? r.show)
-    (Dec·and (good? (load_of r.show) (set_of r.counts))
-    (Dec·and (below? (λ i. state? r.started (clip_at r i) (state_at r i)) (playing r))
-    (Dec·and (below? (named? r.order (playing r)) (playing r)) (cycle? r)))))
+    (Dec.and (show? r.show)
+    (Dec.and (good? (load_of r.show) (set_of r.counts))
+    (Dec.and (below? (λ i. state? r.started (clip_at r i) (state_at r i)) (playing r))
+    (Dec.and (below? (named? r.order (playing r)) (playing r)) (cycle? r)))))
 
 -- 19
 abbrev pub sound_check : Run → Check

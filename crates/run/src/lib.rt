@@ -1,4 +1,6 @@
 // A run: what the server keeps of a show that plays, and its opening.
+#![tactic(auto)]
+
 ghost use Rattle.std.specs.Prelude.{◌≡◌, ◌≤◌};
 ghost use Rattle.state.specs.State.{first_state};
 ghost use Rattle.run.specs.Run.{left_in, with_cycle};
@@ -10,7 +12,7 @@ use state::State;
 use verdict::{Verdict, decide};
 
 // Whether a read is under way, and on which session.
-#[derive(Drop)]
+#[derive(Clone, Copy)]
 pub enum Underway {
     Nothing,
     Read(usize),
@@ -18,7 +20,7 @@ pub enum Underway {
 
 // The show as it was given; each session's count and state; the cycle's order, its place in it, and what is left of the count there.
 // Places from `show.playing` on are not looked at.
-#[derive(Drop)]
+#[derive(Clone, Copy)]
 pub struct Run {
     pub show: Show,
     pub counts: [u32; 16],
@@ -56,14 +58,14 @@ impl Run {
 }
 
 // What a call on a run answers, and the run after it: the next one, or the one that was given.
-#[derive(Drop)]
+#[derive(Clone, Copy)]
 pub struct Moved {
     pub check: Check,
     pub run: Run,
 }
 
 // A run that can begin, or why there is none; refused, the run is zeros.
-#[derive(Drop)]
+#[derive(Clone, Copy)]
 pub struct Opened {
     pub check: Check,
     pub run: Run,

@@ -1,4 +1,6 @@
 // The test of refusal 19: whether a run record is sound. docs/RULES.md, section 9.
+#![tactic(auto)]
+
 ghost use Rattle.std.specs.Prelude.{◌≡◌, ◌+◌, ◌≤◌};
 ghost use Rattle.show.specs.Limits.{Tells};
 ghost use Rattle.state.specs.State.{Room, put_most};
@@ -12,7 +14,7 @@ use state::State;
 use trial::{Answer, tried};
 
 // What the test of a record tells.
-#[derive(Drop)]
+#[derive(Clone, Copy)]
 pub enum Test {
     Sound,
     Damaged,

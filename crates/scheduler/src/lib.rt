@@ -1,4 +1,6 @@
 // The scheduler: which session is read next.
+#![tactic(auto)]
+
 mod cycle;
 
 ghost use Rattle.std.specs.Prelude.{◌≡◌};
@@ -10,7 +12,7 @@ use run_test::{Test, test_run};
 use show::refusal::Refusal;
 
 // What to read next.
-#[derive(Drop)]
+#[derive(Clone, Copy)]
 pub enum Choice {
     Idle,
     Read(usize),
@@ -18,7 +20,7 @@ pub enum Choice {
 }
 
 // The choice, and the run after it.
-#[derive(Drop)]
+#[derive(Clone, Copy)]
 pub struct Chosen {
     pub choice: Choice,
     pub run: Run,

@@ -1,4 +1,6 @@
 // A show: one drive, its layouts and its sessions, the limits of each, and the test of a whole show.
+#![tactic(auto)]
+
 pub mod refusal;
 
 ghost use Rattle.std.specs.Prelude.{◌≡◌};
@@ -8,14 +10,14 @@ ghost use Rattle.show.specs.Checks.{show_check};
 use crate::refusal::{Check, Refusal};
 
 // A and N of the rules: bytes in a block, blocks on a cylinder.
-#[derive(Drop)]
+#[derive(Clone, Copy)]
 pub struct Drive {
     pub block: u32,
     pub cylinder: u32,
 }
 
 // Where a clip lies on the disk, by its four times in µs.
-#[derive(Drop)]
+#[derive(Clone, Copy)]
 pub struct Layout {
     pub longest: u32,
     pub track: u32,
@@ -24,7 +26,7 @@ pub struct Layout {
 }
 
 // R, Y and B of a clip, and the number of its layout.
-#[derive(Drop)]
+#[derive(Clone, Copy)]
 pub struct Session {
     pub rate: u32,
     pub cushion: u32,
@@ -33,7 +35,7 @@ pub struct Session {
 }
 
 // The first `laid` layouts and the first `playing` sessions are the show; the places above are not looked at.
-#[derive(Drop)]
+#[derive(Clone, Copy)]
 pub struct Show {
     pub drive: Drive,
     pub layouts: [Layout; 8],

@@ -3,7 +3,7 @@ ghost use Rattle.std.specs.Prelude.{◌≡◌};
 ghost use Rattle.show.specs.Refusals.{told_of};
 
 // A case for each number; 6 and 7 carry the place of their lowest offender.
-#[derive(Drop)]
+#[derive(Clone, Copy)]
 pub enum Refusal {
     FileLength,
     Counts,
@@ -27,14 +27,14 @@ pub enum Refusal {
 }
 
 // What a test answers.
-#[derive(Drop)]
+#[derive(Clone, Copy)]
 pub enum Check {
     Within,
     Refused(Refusal),
 }
 
 // How a refusal is told: its number, and the place, which is 0 but for 6 and 7.
-#[derive(Drop)]
+#[derive(Clone, Copy)]
 pub struct Told {
     pub number: u32,
     pub place: usize,

@@ -1,6 +1,6 @@
 -- The tests of a file, 1 to 4: docs/RULES.md, sections 4 and 6.
 use Rattle.std.specs.Prelude.{ℕ, ◌+◌, ◌*◌, ◌-◌, ◌≤◌, ◌≡◌}
-use Rattle.std.proofs.Math.Logic.{Dec·and}
+use Rattle.std.proofs.Math.Logic.Dec
 use Rattle.std.proofs.Math.Decide.{dec_le, ℕ_discrete}
 use Rattle.show.specs.declared.refusal.Refusal.TheVariants.{FileLength, Distances, NoteLength}
 use Rattle.show.specs.declared.refusal.Check.{Check}
@@ -19,10 +19,10 @@ pub record Distanced (at : ℕ) (t : Trailer) : Type 0 where
   pub inside : t.far ≤ at
 
 unfoldable pub distanced? : (at : ℕ) (t : Trailer) → Dec (Distanced at t)
-unfolding Dec·and ℕ_discrete dec_le
+unfolding Dec.and ℕ_discrete dec_le
 distanced? at t =
     decided (λ h. record { far = h.0; near = h.1.0; inside = h.1.1 }) (λ b. (b.far, (b.near, b.inside)))
-    (Dec·and (ℕ_discrete _ _) (Dec·and (ℕ_discrete _ _) (dec_le _ _)))
+    (Dec.and (ℕ_discrete _ _) (Dec.and (ℕ_discrete _ _) (dec_le _ _)))
 
 -- the shortest file and the longest, the longest note
 abbrev pub file_least : ℕ

@@ -1,4 +1,6 @@
 // The show file, and reading it. docs/RULES.md, section 6.
+#![tactic(auto)]
+
 mod bytes;
 mod rows;
 pub mod trailer;
@@ -17,7 +19,7 @@ use show::Show;
 use show::refusal::{Check, Refusal};
 
 // What reading answers: the show and the length of its note. Refused, both are zeros.
-#[derive(Drop)]
+#[derive(Clone, Copy)]
 pub struct Reading {
     pub check: Check,
     pub show: Show,
@@ -25,7 +27,7 @@ pub struct Reading {
 }
 
 // What a writer answers: how many bytes it wrote. Refused, none.
-#[derive(Drop)]
+#[derive(Clone, Copy)]
 pub struct Written {
     pub check: Check,
     pub len: usize,

@@ -10,7 +10,7 @@ use show::refusal::{Check, Refusal};
 use show::{Drive, Show};
 
 // `far` and `near` are the distances from the trailer's first byte back to the first layout and to the first session.
-#[derive(Drop)]
+#[derive(Clone, Copy)]
 pub struct Trailer {
     pub drive: Drive,
     pub laid: usize,

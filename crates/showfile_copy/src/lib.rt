@@ -1,4 +1,6 @@
 // There and back: a show written and read again, a file read and written again. docs/RULES.md, section 6.
+#![tactic(auto)]
+
 ghost use Rattle.std.specs.Prelude.{◌≡◌, length};
 ghost use Rattle.showfile_write.specs.Answers.{buffer_of};
 ghost use Rattle.showfile_copy.specs.Trips.{reread_of, copied_of, copy_of};

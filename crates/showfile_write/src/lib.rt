@@ -1,4 +1,6 @@
 // Writing a show file. docs/RULES.md, section 6.
+#![tactic(auto)]
+
 mod bytes;
 mod rows;
 mod trailer;

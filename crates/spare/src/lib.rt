@@ -1,4 +1,6 @@
 // Spare time: how far a session is ahead of its player, what a run has to spare, and the start. docs/RULES.md, section 10.
+#![tactic(auto)]
+
 ghost use Rattle.std.specs.Prelude.{◌≡◌, ◌<◌};
 ghost use Rattle.show.specs.Checks.{first};
 ghost use Rattle.run.specs.Run.{playing};
@@ -17,7 +19,7 @@ use standing::{Standing, slack_in, stand};
 use workahead::{Spare, ahead_of};
 
 // The answer, and the run as it was given.
-#[derive(Drop)]
+#[derive(Clone, Copy)]
 pub struct Spared {
     pub spare: Spare,
     pub run: Run,

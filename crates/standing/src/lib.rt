@@ -1,4 +1,6 @@
 // How the sessions of a run stand to one another, and what a standing in any order has to spare. docs/RULES.md, section 10.
+#![tactic(auto)]
+
 mod fit;
 mod least;
 
@@ -17,7 +19,7 @@ use trial::tried;
 use workahead::{Spare, ahead_of};
 
 // The workahead, the worst time and the place of each session.
-#[derive(Drop)]
+#[derive(Clone, Copy)]
 pub struct Standing {
     pub playing: usize,
     pub aheads: [i64; 16],
@@ -26,7 +28,7 @@ pub struct Standing {
 }
 
 // How the sessions stand, or why that is not told.
-#[derive(Drop)]
+#[derive(Clone, Copy)]
 pub struct Stood {
     pub check: Check,
     pub standing: Standing,

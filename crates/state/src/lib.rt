@@ -1,11 +1,13 @@
 // What one session holds: the bytes put and taken, and its clock. docs/RULES.md, section 9.
+#![tactic(auto)]
+
 ghost use Rattle.show.specs.Limits.{Tells};
 ghost use Rattle.state.specs.State.{Room, Waiting, StateSound};
 
 use show::Session;
 
 // P, G and C of a session: the bytes put and taken, and its clock in microbytes.
-#[derive(Drop)]
+#[derive(Clone, Copy)]
 pub struct State {
     pub put: u64,
     pub taken: u64,

@@ -1,5 +1,7 @@
 // Text put into a lent buffer at a place. Each call answers the place after what it put; where the text does not fit, no byte
 // changes, and it answers the place that was given.
+#![tactic(auto)]
+
 ghost use Rattle.std.specs.Prelude.{◌≡◌, ◌∷◌, ◌++◌, [], ◌+◌, ◌≤◌, ◌<◌, length};
 ghost use Rattle.show.specs.Limits.{Tells};
 ghost use Rattle.text.specs.Decimal.{decimal};

@@ -1,5 +1,7 @@
 // Texts by a form: numbers stand in decimal where the form has a #. Each call answers the place after what it put; where the text does not
 // fit, no byte changes, and it answers the place that was given.
+#![tactic(auto)]
+
 pub mod hex;
 
 ghost use Rattle.std.specs.Prelude.{◌≡◌, ◌∷◌, [], ◌+◌, ◌≤◌, length};

@@ -1,4 +1,6 @@
 // Given counts as a set of a show: whether they are a feasible workahead-augmenting set, with their times.
+#![tactic(auto)]
+
 ghost use Rattle.std.specs.Prelude.{◌≡◌};
 ghost use Rattle.show.specs.Limits.{Tells};
 ghost use Rattle.count.specs.Answers.{BlockWithin, RateWithin};
@@ -12,7 +14,7 @@ use show::refusal::{Check, Refusal};
 use show::{Session, Show};
 
 // Whether given counts are a feasible workahead-augmenting set.
-#[derive(Drop)]
+#[derive(Clone, Copy)]
 pub enum Answer {
     Holds,
     Fails,
@@ -20,7 +22,7 @@ pub enum Answer {
 }
 
 // L of given counts and the worst time of each; zeros above the session count, and everywhere if refused.
-#[derive(Drop)]
+#[derive(Clone, Copy)]
 pub struct Trial {
     pub answer: Answer,
     pub round: u64,

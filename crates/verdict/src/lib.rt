@@ -1,4 +1,6 @@
 // Yes or no: whether a show is accepted, with the smallest set of counts.
+#![tactic(auto)]
+
 pub mod known;
 pub mod round;
 
@@ -14,14 +16,14 @@ use crate::round::{Turn, settle};
 use show::Show;
 use show::refusal::{Check, Refusal};
 
-#[derive(Drop)]
+#[derive(Clone, Copy)]
 pub enum Verdict {
     Accepted,
     Refused(Refusal),
 }
 
 // L, and each session's count and the worst time for it; zeros above the session count, and everywhere if refused.
-#[derive(Drop)]
+#[derive(Clone, Copy)]
 pub struct Decision {
     pub verdict: Verdict,
     pub round: u64,

@@ -9,7 +9,7 @@ use crate::known::takes;
 use show::{Session, Show};
 
 // How long a round takes, or that a count in it does not fit its buffer.
-#[derive(Drop)]
+#[derive(Clone, Copy)]
 pub(crate) enum Turn {
     Takes(u64),
     Full,

@@ -1,5 +1,7 @@
 // Reads a show file from standard input and writes why it is refused to standard output: a line, and a sentence for the telephone.
 // A failed read or write is told on standard error.
+#![tactic(auto)]
+
 use explain::TEXT_MOST;
 use input::read_all;
 use libc::{STDERR_FILENO, STDOUT_FILENO};

@@ -1,4 +1,6 @@
 // How far a session is ahead of its player, by its state alone. docs/RULES.md, section 10. Apart from `standing` for the gate's time alone.
+#![tactic(auto)]
+
 ghost use Rattle.std.specs.Prelude.{◌*◌, ◌≤◌, ◌<◌, ◌≡◌, nat_abs};
 ghost use Rattle.theory.specs.Floor.{Floors};
 ghost use Rattle.state.specs.State.{put_most};
@@ -10,7 +12,7 @@ use show::refusal::Refusal;
 use state::State;
 
 // A time in µs, which may be below zero, or why there is none.
-#[derive(Drop)]
+#[derive(Clone, Copy)]
 pub enum Spare {
     Time(i64),
     Refused(Refusal),
