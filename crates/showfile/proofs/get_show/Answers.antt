@@ -1,0 +1,8 @@
+-- `get_show` reads the two rows. Assumes nothing.
+use Rattle.showfile.proofs.Got.{show_got}
+use borrow.Author.Rules.{rules}
+use Rattle.showfile.proofs.get_show.Goals as goal
+
+pub returns : goal.returns
+returns c =
+    show_got c.args.file.now c.args.from c.args.t c.get_layouts-layouts.ensures c.get_sessions-sessions.ensures
