@@ -1,0 +1,17 @@
+-- `put_bytes` copies from the front. Invariant: the first i bytes are copied; what falls: length from - i. Assumes nothing.
+use Prim.Native.Nat.{ℕ, ◌-◌, ◌≤◌}
+use mathlib.Core.Path.{◌≡◌, refl, ap, ◌∙◌}
+use mathlib.Core.List.{List}
+use native.Mathlib.Omega.{arith}
+use lib.ListN.{length, take, length-set}
+use lib.Seq.{take_all}
+use Rattle.showfile.specs.Bytes.{over}
+use Rattle.showfile.proofs.ByteLaws.{over_nothing}
+use Rattle.showfile_write.proofs.ByteLaws.{copied_more}
+use Rattle.showfile_write.proofs.bytes.put_bytes.Given as goal
+
+abbrev pub invariant-loop-i : goal.invariant-loop-i
+invariant-loop-i l = (l.i ≤ length l.from) × (length l.b ≡ length l.initial.b) × (l.b ≡ over l.initial.b 0 (take l.i l.from))
+
+abbrev pub decreases-loop-i : goal.decreases-loop-i
+decreases-loop-i l = length l.from - l.i

@@ -1,0 +1,36 @@
+-- `put_half` writes two bytes. Assumes nothing.
+use native.Mathlib.Omega.{arith}
+use lib.ListN.{length-set}
+use Rattle.showfile.specs.Bytes.{half_bytes}
+use Rattle.showfile_write.proofs.ByteLaws.{two_over}
+use borrow.Author.Rules.{rules}
+use Rattle.showfile_write.proofs.bytes.put_half.Goals as goal
+
+pub overflow_cast-b : goal.overflow_cast-b
+overflow_cast-b c =
+    search rules
+
+pub bounds-b-at : goal.bounds-b-at
+bounds-b-at c =
+    search rules
+
+pub overflow_cast-b-2 : goal.overflow_cast-b-2
+overflow_cast-b-2 c =
+    search rules
+
+pub overflow_add-b : goal.overflow_add-b
+overflow_add-b c =
+    search rules
+
+pub bounds-b-at-2 : goal.bounds-b-at-2
+bounds-b-at-2 c =
+    simp length-set (omega arith)
+
+pub shape_of-b : goal.shape_of-b
+shape_of-b c =
+    search rules
+
+pub returns : goal.returns
+unfolding half_bytes
+returns c =
+    two_over c.args.b.now c.args.at _ _ c.requires

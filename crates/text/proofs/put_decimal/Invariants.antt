@@ -1,0 +1,27 @@
+-- From the last digit to the first: with the digits of what is left put in front, the whole number is put. What is left is the measure.
+-- Assumes nothing.
+record SoFar (was : List ℕ) (at n : ℕ) (out : List ℕ) (last left : ℕ) : Type 0 where
+  narrow : left < 2 ^ 64
+  same : length out ≡ length was
+  inside : last < length out
+  place : last + 1 ≡ at + length (decimal left)
+  so_far : over out at (decimal left) ≡ over was at (decimal n)
+use mathlib.Core.Path.{◌≡◌, refl, sym, ap, ◌∙◌}
+use mathlib.Core.List.{List}
+use Prim.Native.Nat.{ℕ, ◌+◌, ◌-◌, ◌/◌, ◌%◌, ◌^◌, ◌≤◌, ◌<◌}
+use native.Mathlib.Nat.{div-lt_self, mod-lt}
+use native.Mathlib.Omega.{arith}
+use lib.Dec.{lit<}
+use lib.ListN.{length, set, length-set}
+use Rattle.showfile.specs.Bytes.{over}
+use Rattle.showfile.proofs.ByteLaws.{one_over}
+use Rattle.text.specs.Decimal.{decimal}
+use Rattle.text.proofs.Puts.{over_behind}
+use Rattle.text.proofs.Digits.{decimal_last, decimal_more, decimal_least, one_less}
+use Rattle.text.proofs.put_decimal.Given as goal
+
+abbrev pub invariant-loop-left : goal.invariant-loop-left
+invariant-loop-left l = SoFar l.initial.out l.at l.n l.out l.last l.left
+
+abbrev pub decreases-loop-left : goal.decreases-loop-left
+decreases-loop-left l = l.left

@@ -1,0 +1,64 @@
+-- No room, or what stands before the number, the number, and what stands after it. Assumes nothing.
+use mathlib.Core.Path.{◌≡◌}
+use mathlib.Core.List.{List, ◌++◌}
+use Prim.Native.Nat.{ℕ, ◌+◌}
+use native.Mathlib.Omega.{arith}
+use lib.ListN.{length, length-append}
+use borrow.Author.Rules.{rules}
+use Rattle.show.proofs.Checks.{tells_yes, tells_no}
+use Rattle.text.specs.Decimal.{decimal}
+use Rattle.text.specs.Puts.{FitsAt}
+use Rattle.text.proofs.Puts.{room_first, room_then, put_then, put_answers, no_room}
+use Rattle.text.proofs.put_numbered.Goals as goal
+
+three_length : (t u v : List ℕ) → length (t ++ (u ++ v)) ≡ length t + (length u + length v)
+three_length t u v = simp length-append
+
+pub returns-then-not-fits : goal.returns-then-not-fits
+returns-then-not-fits c =
+    let f = tells_no _ c.fits2.result c.if-not-fits.true c.fits2.ensures in
+    let pair = no_room _ _ _ (λ h. f (omega (arith, h, three_length c.args.before.now (decimal c.args.n) c.args.after.now))) in record { out_after = pair.0; value = pair.1 }
+
+pub put_bytes-number-requires : goal.put_bytes-number-requires
+put_bytes-number-requires c =
+    let front : List ℕ = c.args.before.now in
+    let rest : List ℕ = decimal c.args.n ++ c.args.after.now in
+    let start : tie.Start = @PLACE@ in
+    let room : FitsAt start.args.out.now start.args.at (front start ++ rest start) = let f = tells_yes _ c.fits2.result c.if-not-fits.false c.fits2.ensures in
+    record { fits = omega (arith, three_length c.args.before.now (decimal c.args.n) c.args.after.now) } in
+    room_first front rest room
+
+pub put_decimal-end-requires : goal.put_decimal-end-requires
+put_decimal-end-requires c =
+    let rest : List ℕ = decimal c.args.n ++ c.args.after.now in
+    let start : tie.Start = @PLACE@ in
+    let front : List ℕ = c.args.before.now in
+    let room : FitsAt start.args.out.now start.args.at (front start ++ rest start) = let f = tells_yes _ c.fits2.result c.if-not-fits.false c.fits2.ensures in
+    record { fits = omega (arith, three_length c.args.before.now (decimal c.args.n) c.args.after.now) } in
+    let room_number : FitsAt c.put_bytes-number.new.0 c.put_bytes-number.result (rest start) = room_then front rest room c.put_bytes-number.ensures c.put_bytes-number.auto.0 in
+    record {
+      fits_at = room_first (decimal c.args.n) c.args.after.now room_number;
+      digits_value = c.width-digits.ensures;
+    }
+
+pub put_bytes-requires : goal.put_bytes-requires
+put_bytes-requires c =
+    let rest : List ℕ = decimal c.args.n ++ c.args.after.now in
+    let start : tie.Start = @PLACE@ in
+    let front : List ℕ = c.args.before.now in
+    let room : FitsAt start.args.out.now start.args.at (front start ++ rest start) = let f = tells_yes _ c.fits2.result c.if-not-fits.false c.fits2.ensures in
+    record { fits = omega (arith, three_length c.args.before.now (decimal c.args.n) c.args.after.now) } in
+    let room_number : FitsAt c.put_bytes-number.new.0 c.put_bytes-number.result (rest start) = room_then front rest room c.put_bytes-number.ensures c.put_bytes-number.auto.0 in
+    room_then (decimal c.args.n) c.args.after.now room_number c.put_decimal-end.ensures c.put_decimal-end.auto.0
+
+pub returns : goal.returns
+returns c =
+    let start : tie.Start = @PLACE@ in
+    let front : List ℕ = c.args.before.now in
+    let rest : List ℕ = decimal c.args.n ++ c.args.after.now in
+    let room : FitsAt start.args.out.now start.args.at (front start ++ rest start) = let f = tells_yes _ c.fits2.result c.if-not-fits.false c.fits2.ensures in
+    record { fits = omega (arith, three_length c.args.before.now (decimal c.args.n) c.args.after.now) } in
+    let room_number : FitsAt c.put_bytes-number.new.0 c.put_bytes-number.result (rest start) = room_then front rest room c.put_bytes-number.ensures c.put_bytes-number.auto.0 in
+    let pair = put_answers room
+    (put_then front rest room c.put_bytes-number.ensures
+    (put_then (decimal c.args.n) c.args.after.now room_number c.put_decimal-end.ensures c.put_bytes.ensures)) in record { out_after = pair.0; value = pair.1 }

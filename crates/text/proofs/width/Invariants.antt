@@ -1,0 +1,19 @@
+-- Four digits a turn: with those that are left, all are counted. The measure is what is left of the number. Assumes nothing.
+record SoFar (n left digits : ℕ) : Type 0 where
+  narrow : left < 2 ^ 64
+  so_far : digits + length (decimal left) ≡ length (decimal n)
+use mathlib.Core.Path.{◌≡◌, ap, ◌∙◌}
+use Prim.Native.Nat.{ℕ, ◌+◌, ◌/◌, ◌^◌, ◌≤◌, ◌<◌}
+use native.Mathlib.Nat.{div-lt_self, div-div-eq-div-mul}
+use native.Mathlib.Omega.{arith}
+use lib.Dec.{lit<}
+use lib.ListN.{length}
+use Rattle.text.specs.Decimal.{decimal}
+use Rattle.text.proofs.Digits.{decimal_most, one_less}
+use Rattle.text.proofs.width.Given as goal
+
+abbrev pub invariant-loop-left : goal.invariant-loop-left
+invariant-loop-left l = SoFar l.n l.left l.digits
+
+abbrev pub decreases-loop-left : goal.decreases-loop-left
+decreases-loop-left l = l.left
