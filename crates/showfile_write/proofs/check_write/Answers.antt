@@ -63,24 +63,22 @@ overflow_add-note-2 c =
 
 pub returns-then-room-note : goal.returns-then-room-note
 returns-then-room-note c =
-    let start : tie.Start = @PLACE@ in
     let layouts_eight : length c.args.show.layouts ≡ 8 = search (unmapped, rules) in
     let sessions_sixteen : length c.args.show.sessions ≡ 16 = search (unmapped, rules) in
     let within : ShowWithin c.args.show = check_within _ (sym c.check-check.ensures ∙ c.in_default.is) in
-    let size : length (file_of start.args.show start.args.note.now)
-    ≡ length start.args.note.now + 16 * (start.args.show.laid + start.args.show.playing) + 20 = shown_length _ _ layouts_eight sessions_sixteen within.counts in
+    let size : length (file_of c.args.show c.args.note.now)
+    ≡ length c.args.note.now + 16 * (c.args.show.laid + c.args.show.playing) + 20 = shown_length _ _ layouts_eight sessions_sixteen within.counts in
     let short : length c.args.note.now ≤ note_most = omega arith in
     let e = size in
     write_short _ _ _ within short (omega arith)
 
 pub returns : goal.returns
 returns c =
-    let start : tie.Start = @PLACE@ in
     let layouts_eight : length c.args.show.layouts ≡ 8 = search (unmapped, rules) in
     let sessions_sixteen : length c.args.show.sessions ≡ 16 = search (unmapped, rules) in
     let within : ShowWithin c.args.show = check_within _ (sym c.check-check.ensures ∙ c.in_default.is) in
-    let size : length (file_of start.args.show start.args.note.now)
-    ≡ length start.args.note.now + 16 * (start.args.show.laid + start.args.show.playing) + 20 = shown_length _ _ layouts_eight sessions_sixteen within.counts in
+    let size : length (file_of c.args.show c.args.note.now)
+    ≡ length c.args.note.now + 16 * (c.args.show.laid + c.args.show.playing) + 20 = shown_length _ _ layouts_eight sessions_sixteen within.counts in
     let short : length c.args.note.now ≤ note_most = omega arith in
     let e = size in
     write_within _ _ _ within short (omega arith)

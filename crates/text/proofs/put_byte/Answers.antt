@@ -3,16 +3,17 @@ use Rattle.text.proofs.Puts.{put_one}
 use borrow.Author.Rules.{rules}
 use Rattle.text.proofs.put_byte.Goals as goal
 
+-- LEFT: no goal same-length
+-- same_length : tie.Need-same-length
+-- same_length c = search rules
+--
+
 pub bounds-out-at : goal.bounds-out-at
 bounds-out-at c =
     search rules
 
 pub overflow_add-result : goal.overflow_add-result
 overflow_add-result c =
-    search rules
-
-pub shape_of-out : goal.shape_of-out
-shape_of-out c =
     search rules
 
 pub returns : goal.returns

@@ -20,6 +20,11 @@ more word i h = ap (λ (k : ℕ). take k word) (add-one i) ∙ take-suc word i 0
 whole : (word : List ℕ) {was : List ℕ} {at : ℕ} → FitsAt was at word → FitsAt was at (take (length word) word)
 whole word r = room_as (sym (take_all (length word) word (omega arith))) r
 
+-- LEFT: no goal same-length
+-- same_length : tie.Need-same-length invariant_loop decreases_loop
+-- same_length c = c.before.loop.invariant.same
+--
+
 pub loop-i-init : goal.loop-i-init
 loop-i-init c =
     pieces_begun _ _ _ _ refl
@@ -45,11 +50,7 @@ pub loop-i-preserved : goal.loop-i-preserved
 loop-i-preserved c =
     piece_put c.args.out.now c.args.at _ _ (one_byte c.args.word.now) (more c.args.word.now) (whole c.args.word.now (c.requires)) c.loop-i.out c.loop-i.i c.loop-i.next
     c.loop-i.invariant (omega arith)
-    c.put_byte-next.new.0 c.put_byte-next.result c.put_byte-next.auto.0 c.put_byte-next.ensures
-
-pub shape_of-out : goal.shape_of-out
-shape_of-out c =
-    c.loop-i.invariant.same
+    c.put_byte-next.new.out c.put_byte-next.result c.put_byte-next.auto.out c.put_byte-next.ensures
 
 pub returns : goal.returns
 returns c =

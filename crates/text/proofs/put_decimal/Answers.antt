@@ -58,6 +58,11 @@ ended was at n out last left h g =
     ∙ ap (over out at) (sym (decimal_last left g))
     ∙ h.so_far
 
+-- LEFT: no goal same-length
+-- same_length : tie.Need-same-length invariant_loop decreases_loop
+-- same_length c = length-set c.before.loop.out c.before.loop.last (48 + c.before.loop.left) ∙ c.before.loop.invariant.same
+-- 
+
 pub overflow_add-end : goal.overflow_add-end
 overflow_add-end c =
     record { fits = (omega (arith, c.requires.digits_value)) }
@@ -106,10 +111,6 @@ overflow_add-out-2 c =
 pub bounds-out-last-2 : goal.bounds-out-last-2
 bounds-out-last-2 c =
     c.loop-left.invariant.inside
-
-pub shape_of-out : goal.shape_of-out
-shape_of-out c =
-    length-set c.loop-left.out c.loop-left.last (48 + c.loop-left.left) ∙ c.loop-left.invariant.same
 
 pub returns : goal.returns
 returns c =

@@ -16,26 +16,24 @@ three_length t u v = simp length-append
 
 pub returns-then-not-fits : goal.returns-then-not-fits
 returns-then-not-fits c =
-    let f = tells_no _ c.fits2.result c.if-not-fits.true c.fits2.ensures in
+    let f = tells_no _ c.fits.result c.if-not-fits.true c.fits.ensures in
     let pair = no_room _ _ _ (λ h. f (omega (arith, h, three_length c.args.before.now (decimal c.args.n) c.args.after.now))) in record { out_after = pair.0; value = pair.1 }
 
 pub put_bytes-number-requires : goal.put_bytes-number-requires
 put_bytes-number-requires c =
     let front : List ℕ = c.args.before.now in
     let rest : List ℕ = decimal c.args.n ++ c.args.after.now in
-    let start : tie.Start = @PLACE@ in
-    let room : FitsAt start.args.out.now start.args.at (front start ++ rest start) = let f = tells_yes _ c.fits2.result c.if-not-fits.false c.fits2.ensures in
+    let room : FitsAt c.args.out.now c.args.at (front ++ rest) = let f = tells_yes _ c.fits.result c.if-not-fits.false c.fits.ensures in
     record { fits = omega (arith, three_length c.args.before.now (decimal c.args.n) c.args.after.now) } in
     room_first front rest room
 
 pub put_decimal-end-requires : goal.put_decimal-end-requires
 put_decimal-end-requires c =
     let rest : List ℕ = decimal c.args.n ++ c.args.after.now in
-    let start : tie.Start = @PLACE@ in
     let front : List ℕ = c.args.before.now in
-    let room : FitsAt start.args.out.now start.args.at (front start ++ rest start) = let f = tells_yes _ c.fits2.result c.if-not-fits.false c.fits2.ensures in
+    let room : FitsAt c.args.out.now c.args.at (front ++ rest) = let f = tells_yes _ c.fits.result c.if-not-fits.false c.fits.ensures in
     record { fits = omega (arith, three_length c.args.before.now (decimal c.args.n) c.args.after.now) } in
-    let room_number : FitsAt c.put_bytes-number.new.0 c.put_bytes-number.result (rest start) = room_then front rest room c.put_bytes-number.ensures c.put_bytes-number.auto.0 in
+    let room_number : FitsAt c.put_bytes-number.new.out c.put_bytes-number.result rest = room_then front rest room c.put_bytes-number.ensures c.put_bytes-number.auto.out in
     record {
       fits_at = room_first (decimal c.args.n) c.args.after.now room_number;
       digits_value = c.width-digits.ensures;
@@ -44,21 +42,19 @@ put_decimal-end-requires c =
 pub put_bytes-requires : goal.put_bytes-requires
 put_bytes-requires c =
     let rest : List ℕ = decimal c.args.n ++ c.args.after.now in
-    let start : tie.Start = @PLACE@ in
     let front : List ℕ = c.args.before.now in
-    let room : FitsAt start.args.out.now start.args.at (front start ++ rest start) = let f = tells_yes _ c.fits2.result c.if-not-fits.false c.fits2.ensures in
+    let room : FitsAt c.args.out.now c.args.at (front ++ rest) = let f = tells_yes _ c.fits.result c.if-not-fits.false c.fits.ensures in
     record { fits = omega (arith, three_length c.args.before.now (decimal c.args.n) c.args.after.now) } in
-    let room_number : FitsAt c.put_bytes-number.new.0 c.put_bytes-number.result (rest start) = room_then front rest room c.put_bytes-number.ensures c.put_bytes-number.auto.0 in
-    room_then (decimal c.args.n) c.args.after.now room_number c.put_decimal-end.ensures c.put_decimal-end.auto.0
+    let room_number : FitsAt c.put_bytes-number.new.out c.put_bytes-number.result rest = room_then front rest room c.put_bytes-number.ensures c.put_bytes-number.auto.out in
+    room_then (decimal c.args.n) c.args.after.now room_number c.put_decimal-end.ensures c.put_decimal-end.auto.out
 
 pub returns : goal.returns
 returns c =
-    let start : tie.Start = @PLACE@ in
     let front : List ℕ = c.args.before.now in
     let rest : List ℕ = decimal c.args.n ++ c.args.after.now in
-    let room : FitsAt start.args.out.now start.args.at (front start ++ rest start) = let f = tells_yes _ c.fits2.result c.if-not-fits.false c.fits2.ensures in
+    let room : FitsAt c.args.out.now c.args.at (front ++ rest) = let f = tells_yes _ c.fits.result c.if-not-fits.false c.fits.ensures in
     record { fits = omega (arith, three_length c.args.before.now (decimal c.args.n) c.args.after.now) } in
-    let room_number : FitsAt c.put_bytes-number.new.0 c.put_bytes-number.result (rest start) = room_then front rest room c.put_bytes-number.ensures c.put_bytes-number.auto.0 in
+    let room_number : FitsAt c.put_bytes-number.new.out c.put_bytes-number.result rest = room_then front rest room c.put_bytes-number.ensures c.put_bytes-number.auto.out in
     let pair = put_answers room
     (put_then front rest room c.put_bytes-number.ensures
     (put_then (decimal c.args.n) c.args.after.now room_number c.put_decimal-end.ensures c.put_bytes.ensures)) in record { out_after = pair.0; value = pair.1 }

@@ -25,25 +25,25 @@ returns-then-not-fits c =
     let long : length whole
     ≡ length c.args.before.now + (length (decimal c.args.a) + length c.args.between.now)
     + (length (decimal c.args.b) + length c.args.after.now) = paired_length c.args.before.now c.args.a c.args.between.now c.args.b c.args.after.now in
-    let f = tells_no _ c.fits-2.result c.if-not-fits.true c.fits-2.ensures in
+    let f = tells_no _ c.fits.result c.if-not-fits.true c.fits.ensures in
     let pair = no_room _ _ _ (λ h. f (omega (arith, h, long))) in record { out_after = pair.0; value = pair.1 }
 
 pub overflow_add-half : goal.overflow_add-half
 overflow_add-half c =
     let HalfFits : ℕ → Type 0 = λ digits. c.args.at + (length c.args.before.now + (digits + length c.args.between.now)) ≤ length c.args.out.now in
-    let half : HalfFits c.width-digits.result = tells_yes _ c.fits-2.result c.if-not-fits.false c.fits-2.ensures in
+    let half : HalfFits c.width-digits.result = tells_yes _ c.fits.result c.if-not-fits.false c.fits.ensures in
     let f = half in record { fits = omega arith }
 
 pub overflow_add-half-2 : goal.overflow_add-half-2
 overflow_add-half-2 c =
     let HalfFits : ℕ → Type 0 = λ digits. c.args.at + (length c.args.before.now + (digits + length c.args.between.now)) ≤ length c.args.out.now in
-    let half : HalfFits c.width-digits.result = tells_yes _ c.fits-2.result c.if-not-fits.false c.fits-2.ensures in
+    let half : HalfFits c.width-digits.result = tells_yes _ c.fits.result c.if-not-fits.false c.fits.ensures in
     let f = half in record { fits = omega arith }
 
 pub overflow_add-half-3 : goal.overflow_add-half-3
 overflow_add-half-3 c =
     let HalfFits : ℕ → Type 0 = λ digits. c.args.at + (length c.args.before.now + (digits + length c.args.between.now)) ≤ length c.args.out.now in
-    let half : HalfFits c.width-digits.result = tells_yes _ c.fits-2.result c.if-not-fits.false c.fits-2.ensures in
+    let half : HalfFits c.width-digits.result = tells_yes _ c.fits.result c.if-not-fits.false c.fits.ensures in
     let f = half in record { fits = omega arith }
 
 pub returns-then-not-fits-2 : goal.returns-then-not-fits-2
@@ -52,19 +52,17 @@ returns-then-not-fits-2 c =
     let long : length whole
     ≡ length c.args.before.now + (length (decimal c.args.a) + length c.args.between.now)
     + (length (decimal c.args.b) + length c.args.after.now) = paired_length c.args.before.now c.args.a c.args.between.now c.args.b c.args.after.now in
-    let f = tells_no _ c.fits3.result c.if-not-fits-2.true c.fits3.ensures in
+    let f = tells_no _ c.fits-2.result c.if-not-fits-2.true c.fits-2.ensures in
     let pair = no_room _ _ _ (λ h. f (omega (arith, h, long))) in record { out_after = pair.0; value = pair.1 }
 
 pub returns : goal.returns
 returns c =
-    let start : tie.Start = @PLACE@ in
     let whole : List ℕ = paired c.args.before.now c.args.a c.args.between.now c.args.b c.args.after.now in
     let long : length whole
     ≡ length c.args.before.now + (length (decimal c.args.a) + length c.args.between.now)
     + (length (decimal c.args.b) + length c.args.after.now) = paired_length c.args.before.now c.args.a c.args.between.now c.args.b c.args.after.now in
-    let room : FitsAt start.args.out.now start.args.at (whole start) = let f = tells_yes _ c.fits3.result c.if-not-fits-2.false c.fits3.ensures in
-    record { fits = omega (arith, long start) } in
-    let a = start.args in
+    let room : FitsAt c.args.out.now c.args.at whole = let f = tells_yes _ c.fits-2.result c.if-not-fits-2.false c.fits-2.ensures in
+    record { fits = omega (arith, long) } in
     let pair = put_answers room
-    (pair_put a.before.now a.a a.between.now a.b a.after.now room c.put_numbered-next.auto.0 c.put_numbered-next.ensures
+    (pair_put c.args.before.now c.args.a c.args.between.now c.args.b c.args.after.now room c.put_numbered-next.auto.out c.put_numbered-next.ensures
     c.put_numbered.ensures) in record { out_after = pair.0; value = pair.1 }

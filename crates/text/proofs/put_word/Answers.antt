@@ -5,26 +5,27 @@ use Rattle.show.proofs.Checks.{tells_yes, tells_no}
 use Rattle.text.proofs.Puts.{put_answers, no_room}
 use Rattle.text.proofs.put_word.Goals as goal
 
+-- LEFT: no goal same-length
+-- same_length : tie.Need-same-length
+-- same_length c = search rules
+--
+
 pub fits-requires : goal.fits-requires
 fits-requires c =
     search rules
 
 pub returns-then-not-fits : goal.returns-then-not-fits
 returns-then-not-fits c =
-    let f = tells_no _ c.fits2.result c.if-not-fits.true c.fits2.ensures in
+    let f = tells_no _ c.fits.result c.if-not-fits.true c.fits.ensures in
     let pair = no_room _ _ _ (λ h. f (omega (arith, h))) in record { out_after = pair.0; value = pair.1 }
 
 pub put_bytes-requires : goal.put_bytes-requires
 put_bytes-requires c =
-    let f = tells_yes _ c.fits2.result c.if-not-fits.false c.fits2.ensures in
+    let f = tells_yes _ c.fits.result c.if-not-fits.false c.fits.ensures in
     record { fits = omega arith }
-
-pub shape_of-out : goal.shape_of-out
-shape_of-out c =
-    search rules
 
 pub returns : goal.returns
 returns c =
-    let f = tells_yes _ c.fits2.result c.if-not-fits.false
-    c.fits2.ensures in
+    let f = tells_yes _ c.fits.result c.if-not-fits.false
+    c.fits.ensures in
     let pair = put_answers (record { fits = omega arith }) c.put_bytes.ensures in record { out_after = pair.0; value = pair.1 }

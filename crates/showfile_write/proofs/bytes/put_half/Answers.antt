@@ -6,6 +6,11 @@ use Rattle.showfile_write.proofs.ByteLaws.{two_over}
 use borrow.Author.Rules.{rules}
 use Rattle.showfile_write.proofs.bytes.put_half.Goals as goal
 
+-- LEFT: no goal same-length
+-- same_length : tie.Need-same-length
+-- same_length c = search rules
+--
+
 pub overflow_cast-b : goal.overflow_cast-b
 overflow_cast-b c =
     search rules
@@ -25,10 +30,6 @@ overflow_add-b c =
 pub bounds-b-at-2 : goal.bounds-b-at-2
 bounds-b-at-2 c =
     simp length-set (omega arith)
-
-pub shape_of-b : goal.shape_of-b
-shape_of-b c =
-    search rules
 
 pub returns : goal.returns
 unfolding half_bytes
