@@ -3,11 +3,6 @@ use Rattle.text.proofs.Puts.{put_one}
 use borrow.Author.Rules.{rules}
 use Rattle.text.proofs.put_byte.Goals as goal
 
--- LEFT: no goal same-length
--- same_length : tie.Need-same-length
--- same_length c = search rules
---
-
 pub bounds-out-at : goal.bounds-out-at
 bounds-out-at c =
     search rules

@@ -20,11 +20,6 @@ more word i h = ap (λ (k : ℕ). take k word) (add-one i) ∙ take-suc word i 0
 whole : (word : List ℕ) {was : List ℕ} {at : ℕ} → FitsAt was at word → FitsAt was at (take (length word) word)
 whole word r = room_as (sym (take_all (length word) word (omega arith))) r
 
--- LEFT: no goal same-length
--- same_length : tie.Need-same-length invariant_loop decreases_loop
--- same_length c = c.before.loop.invariant.same
---
-
 pub loop-i-init : goal.loop-i-init
 loop-i-init c =
     pieces_begun _ _ _ _ refl

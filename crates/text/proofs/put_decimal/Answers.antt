@@ -1,11 +1,5 @@
 -- From the last digit to the first: with the digits of what is left put in front, the whole number is put. What is left is the measure.
 -- Assumes nothing.
-record SoFar (was : List ℕ) (at n : ℕ) (out : List ℕ) (last left : ℕ) : Type 0 where
-  narrow : left < 2 ^ 64
-  same : length out ≡ length was
-  inside : last < length out
-  place : last + 1 ≡ at + length (decimal left)
-  so_far : over out at (decimal left) ≡ over was at (decimal n)
 use mathlib.Core.Path.{◌≡◌, refl, sym, ap, ◌∙◌}
 use mathlib.Core.List.{List}
 use Prim.Native.Nat.{ℕ, ◌+◌, ◌-◌, ◌/◌, ◌%◌, ◌^◌, ◌≤◌, ◌<◌}
@@ -19,6 +13,7 @@ use Rattle.text.specs.Decimal.{decimal}
 use Rattle.text.proofs.Puts.{over_behind}
 use Rattle.text.proofs.Digits.{decimal_last, decimal_more, decimal_least, one_less}
 use Rattle.text.proofs.put_decimal.Goals as goal
+use Rattle.text.proofs.put_decimal.Invariants.{SoFar}
 
 -- the place of the first digit, and of each before the last
 front : {was out : List ℕ} {at n last left : ℕ} → SoFar was at n out last left → left < 10 → last ≡ at
@@ -57,11 +52,6 @@ ended was at n out last left h g =
     ∙ one_over out at (48 + left) (omega arith)
     ∙ ap (over out at) (sym (decimal_last left g))
     ∙ h.so_far
-
--- LEFT: no goal same-length
--- same_length : tie.Need-same-length invariant_loop decreases_loop
--- same_length c = length-set c.before.loop.out c.before.loop.last (48 + c.before.loop.left) ∙ c.before.loop.invariant.same
--- 
 
 pub overflow_add-end : goal.overflow_add-end
 overflow_add-end c =

@@ -1,11 +1,5 @@
 -- From the last digit to the first: with the digits of what is left put in front, the whole number is put. What is left is the measure.
 -- Assumes nothing.
-record SoFar (was : List ℕ) (at n : ℕ) (out : List ℕ) (last left : ℕ) : Type 0 where
-  narrow : left < 2 ^ 64
-  same : length out ≡ length was
-  inside : last < length out
-  place : last + 1 ≡ at + length (decimal left)
-  so_far : over out at (decimal left) ≡ over was at (decimal n)
 use mathlib.Core.Path.{◌≡◌, refl, sym, ap, ◌∙◌}
 use mathlib.Core.List.{List}
 use Prim.Native.Nat.{ℕ, ◌+◌, ◌-◌, ◌/◌, ◌%◌, ◌^◌, ◌≤◌, ◌<◌}
@@ -19,6 +13,13 @@ use Rattle.text.specs.Decimal.{decimal}
 use Rattle.text.proofs.Puts.{over_behind}
 use Rattle.text.proofs.Digits.{decimal_last, decimal_more, decimal_least, one_less}
 use Rattle.text.proofs.put_decimal.Given as goal
+
+pub record SoFar (was : List ℕ) (at n : ℕ) (out : List ℕ) (last left : ℕ) : Type 0 where
+  pub narrow : left < 2 ^ 64
+  pub same : length out ≡ length was
+  pub inside : last < length out
+  pub place : last + 1 ≡ at + length (decimal left)
+  pub so_far : over out at (decimal left) ≡ over was at (decimal n)
 
 abbrev pub invariant-loop-left : goal.invariant-loop-left
 invariant-loop-left l = SoFar l.initial.out l.at l.n l.out l.last l.left

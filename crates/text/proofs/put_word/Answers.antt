@@ -5,11 +5,6 @@ use Rattle.show.proofs.Checks.{tells_yes, tells_no}
 use Rattle.text.proofs.Puts.{put_answers, no_room}
 use Rattle.text.proofs.put_word.Goals as goal
 
--- LEFT: no goal same-length
--- same_length : tie.Need-same-length
--- same_length c = search rules
---
-
 pub fits-requires : goal.fits-requires
 fits-requires c =
     search rules

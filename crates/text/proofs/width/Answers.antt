@@ -1,7 +1,4 @@
 -- Four digits a turn: with those that are left, all are counted. The measure is what is left of the number. Assumes nothing.
-record SoFar (n left digits : ℕ) : Type 0 where
-  narrow : left < 2 ^ 64
-  so_far : digits + length (decimal left) ≡ length (decimal n)
 use mathlib.Core.Path.{◌≡◌, ap, ◌∙◌}
 use Prim.Native.Nat.{ℕ, ◌+◌, ◌/◌, ◌^◌, ◌≤◌, ◌<◌}
 use native.Mathlib.Nat.{div-lt_self, div-div-eq-div-mul}
@@ -11,6 +8,7 @@ use lib.ListN.{length}
 use Rattle.text.specs.Decimal.{decimal}
 use Rattle.text.proofs.Digits.{decimal_most, one_less}
 use Rattle.text.proofs.width.Goals as goal
+use Rattle.text.proofs.width.Invariants.{SoFar}
 
 four_less : (n : ℕ) → n < 2 ^ 64 → 10000 ≤ n → length (decimal n) ≡ length (decimal (n / 10000)) + 4
 four_less n b h =

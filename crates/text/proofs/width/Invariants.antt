@@ -1,7 +1,4 @@
 -- Four digits a turn: with those that are left, all are counted. The measure is what is left of the number. Assumes nothing.
-record SoFar (n left digits : ℕ) : Type 0 where
-  narrow : left < 2 ^ 64
-  so_far : digits + length (decimal left) ≡ length (decimal n)
 use mathlib.Core.Path.{◌≡◌, ap, ◌∙◌}
 use Prim.Native.Nat.{ℕ, ◌+◌, ◌/◌, ◌^◌, ◌≤◌, ◌<◌}
 use native.Mathlib.Nat.{div-lt_self, div-div-eq-div-mul}
@@ -11,6 +8,10 @@ use lib.ListN.{length}
 use Rattle.text.specs.Decimal.{decimal}
 use Rattle.text.proofs.Digits.{decimal_most, one_less}
 use Rattle.text.proofs.width.Given as goal
+
+pub record SoFar (n left digits : ℕ) : Type 0 where
+  pub narrow : left < 2 ^ 64
+  pub so_far : digits + length (decimal left) ≡ length (decimal n)
 
 abbrev pub invariant-loop-left : goal.invariant-loop-left
 invariant-loop-left l = SoFar l.n l.left l.digits

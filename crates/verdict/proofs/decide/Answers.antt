@@ -1,0 +1,43 @@
+-- `decide` refuses a show outside the limits, and otherwise answers by the least time that sustains. Assumes nothing.
+use mathlib.Core.Path.{sym, ◌∙◌, subst}
+use borrow.Author.Rules.{rules}
+use Rattle.show.specs.Limits.{ShowWithin}
+use Rattle.show.proofs.Shows.{check_within}
+use Rattle.theory.proofs.Rounds.{least_smallest}
+use Rattle.theory.proofs.Shows.{show_sound}
+use Rattle.verdict.specs.Answers.{DecisionIs, accepted, no_set, outside}
+use Rattle.verdict.specs.Steps.{Settled, SettledAs}
+use Rattle.verdict.proofs.decide.Goals as goal
+
+pub returns-in-Refused : goal.returns-in-Refused
+returns-in-Refused c =
+    subst (DecisionIs _) (sym c.refused.ensures) (outside _ (sym c.check-check.ensures ∙ c.in-Refused.is))
+
+pub settle-settled-requires : goal.settle-settled-requires
+settle-settled-requires c =
+    let within : ShowWithin c.args.show = check_within _ (sym c.check-check.ensures ∙ c.in_default.is) in
+    within
+
+pub returns-in_default-settled : goal.returns-in_default-settled
+returns-in_default-settled c =
+    let within : ShowWithin c.args.show = check_within _ (sym c.check-check.ensures ∙ c.in_default.is) in
+    subst (DecisionIs _) (sym c.refused-in_default-settled.ensures)
+    (no_set within (subst (SettledAs _) c.in_default-settled.is c.settle-settled.ensures))
+
+pub accepted-requires : goal.accepted-requires
+accepted-requires c =
+    let within : ShowWithin c.args.show = check_within _ (sym c.check-check.ensures ∙ c.in_default.is) in
+    let settled_at : Settled c.args.show c.in-Takes.t = subst (SettledAs _) c.in-Takes.is c.settle-settled.ensures in
+    record {
+      show_within = within;
+      settled = settled_at;
+    }
+
+pub returns : goal.returns
+returns c =
+    let within : ShowWithin c.args.show = check_within _ (sym c.check-check.ensures ∙ c.in_default.is) in
+    let settled_at : Settled c.args.show c.in-Takes.t = subst (SettledAs _) c.in-Takes.is c.settle-settled.ensures in
+    let w = within in
+    let h = settled_at in
+    subst (DecisionIs _) (sym c.accepted.ensures)
+    (accepted _ w (least_smallest _ (show_sound _ w) _ h.least h.fits))

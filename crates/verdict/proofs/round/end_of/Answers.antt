@@ -1,0 +1,31 @@
+-- `end_of` finds the first time over which a count does not fit. Invariant: the end of the first i sessions; what falls: playing - i.
+-- Assumes nothing.
+use Prim.Native.Nat.{◌-◌}
+use native.Mathlib.Omega.{arith}
+use borrow.Author.Rules.{rules}
+use Rattle.verdict.proofs.Ends.{EndTo, can_last, end_begun, end_body, end_ended}
+use Rattle.verdict.proofs.round.end_of.Goals as goal
+
+pub loop-i-init : goal.loop-i-init
+loop-i-init c =
+    end_begun _ c.requires
+
+pub bounds-show-i : goal.bounds-show-i
+bounds-show-i c =
+    omega arith
+
+pub sooner-end-requires : goal.sooner-end-requires
+sooner-end-requires c =
+    can_last _ c.requires _ c.loop-i-test.true
+
+pub loop-i-smaller : goal.loop-i-smaller
+loop-i-smaller c =
+    omega arith
+
+pub loop-i-preserved : goal.loop-i-preserved
+loop-i-preserved c =
+    end_body _ c.requires _ _ _ c.loop-i.invariant c.loop-i-test.true c.sooner-end.ensures
+
+pub returns : goal.returns
+returns c =
+    end_ended _ c.requires _ _ c.loop-i.invariant c.loop-i-test.false
