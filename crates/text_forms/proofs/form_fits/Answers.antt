@@ -8,13 +8,8 @@ use Rattle.text_forms.specs.Forms.{form_text, marks_of, piece_text}
 use Rattle.text.proofs.Puts.{longer}
 use Rattle.text_forms.proofs.Forms.{Used, used_begun, used_more, so_far, piece, piece_more, pieces_whole, piece_here}
 use borrow.Author.Rules.{rules}
-use Rattle.text_forms.proofs.form_fits.Statement.{statement}
-use Rattle.text_forms.proofs.form_fits.Tie as tie
-
-record SoFar (len at : ℕ) (form numbers : List ℕ) (room used i : ℕ) : Type 0 where
-  inside : i ≤ length form
-  marks : Used form used i
-  left : at + length (so_far form numbers i) + room ≡ len
+use Rattle.text_forms.proofs.form_fits.Goals as goal
+use Rattle.text_forms.proofs.form_fits.Invariants.{SoFar}
 
 begun : (len at : ℕ) (form numbers : List ℕ) → at ≤ len → SoFar len at form numbers (len - at) 0 0
 unfolding form_text
@@ -49,47 +44,26 @@ module _ (len at : ℕ) (form numbers : List ℕ) (room used i : ℕ) (h : SoFar
       let n : i ≡ length form = let b = h.inside in omega arith in
       omega (arith, ap (λ (j : ℕ). length (so_far form numbers j)) n, ap length (pieces_whole form numbers))
 
-abbrev invariant_loop : tie.invariant_loop
-invariant_loop len at form numbers room₀ used₀ i₀ room used i = SoFar len at form numbers room used i
+pub returns-then-len-at : goal.returns-then-len-at
+returns-then-len-at c =
+    λ f. omega (arith, f, c.if-len-at.true)
 
-abbrev decreases_loop : tie.decreases_loop
-decreases_loop len at form numbers room₀ used₀ i₀ room used i = length form - i
+pub loop-i-init : goal.loop-i-init
+loop-i-init c =
+    begun _ _ _ _ (omega arith)
 
-returns : tie.Need-returns invariant_loop decreases_loop
-returns c = λ f. omega (arith, f, c.if1.true)
+pub returns-then-room-size : goal.returns-then-room-size
+returns-then-room-size c =
+    short _ _ _ _ _ _ _ c.loop-i.invariant _ c.piece_size-size.ensures (omega arith) c.if-room-size.true
 
-loop_holds : tie.Need-loop-init invariant_loop decreases_loop
-loop_holds c = begun _ _ _ _ (omega arith)
+pub overflow_add-used : goal.overflow_add-used
+overflow_add-used c =
+    record { fits = (omega (arith, c.marks-used.ensures.upper_bound)) }
 
-returns_2 : tie.Need-returns-2 invariant_loop decreases_loop
-returns_2 c = short _ _ _ _ _ _ _ c.before.before.before.before.loop.invariant _ c.before.piece-size.ensures (omega arith) c.if2.true
+pub loop-i-preserved : goal.loop-i-preserved
+loop-i-preserved c =
+    body _ _ _ _ _ _ _ c.loop-i.invariant c.piece_size-size.result c.piece_size-size.ensures (omega arith) c.marks-used.result (omega arith) c.marks-used.ensures.value c.marks-used.ensures.upper_bound
 
-add_used : tie.Need-overflow-add-used invariant_loop decreases_loop
-add_used c = record { fits = (let f = c.before.before.before.before.before.loop.invariant.marks.few in omega (arith, c.marks.ensures.1)) }
-
-loop_again : tie.Need-loop-preserved invariant_loop decreases_loop
-loop_again c =
-    let p = c.before.before.piece-size in
-    let loop' = c.before.before.before.before.before.loop in
-    body _ _ _ _ _ _ _ loop'.invariant p.result p.ensures (omega arith) c.marks.result (omega arith) c.marks.ensures.0 c.marks.ensures.1
-
-returns_3 : tie.Need-returns-3 invariant_loop decreases_loop
-returns_3 c = ended _ _ _ _ _ _ _ c.before.loop.invariant (omega arith)
-
-pub form_fits_spec : {M : Type 1} → statement M
-form_fits_spec =
-    tie.close
-    (tie.spec
-    invariant_loop
-    decreases_loop
-    returns
-    loop_holds
-    (λ c. search rules)
-    (λ c κs. search rules)
-    returns_2
-    (λ c κs. search rules)
-    add_used
-    (λ c. search rules)
-    (λ c. search rules)
-    loop_again
-    returns_3)
+pub returns : goal.returns
+returns c =
+    ended _ _ _ _ _ _ _ c.loop-i.invariant (omega arith)
