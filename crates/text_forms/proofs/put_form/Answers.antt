@@ -10,11 +10,6 @@ pub returns-then-not-form_fits : goal.returns-then-not-form_fits
 returns-then-not-form_fits c =
     let pair = no_room _ _ _ (tells_no _ c.form_fits.result c.if-not-form_fits.true c.form_fits.ensures) in record { out_after = pair.0; value = pair.1 }
 
-pub put_pieces-requires : goal.put_pieces-requires
-put_pieces-requires c =
-    let room : (FitsAt c.args.out.now c.args.at (form_text c.args.form.now c.args.numbers.now)) = record { fits = tells_yes _ c.form_fits.result c.if-not-form_fits.false c.form_fits.ensures } in
-    room
-
 pub returns : goal.returns
 returns c =
     let room : (FitsAt c.args.out.now c.args.at (form_text c.args.form.now c.args.numbers.now)) = record { fits = tells_yes _ c.form_fits.result c.if-not-form_fits.false c.form_fits.ensures } in

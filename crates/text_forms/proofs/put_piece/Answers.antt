@@ -10,7 +10,7 @@ use Rattle.text_forms.proofs.put_piece.Goals as goal
 
 pub returns-then-b-ne35 : goal.returns-then-b-ne35
 returns-then-b-ne35 c =
-    answer_as (piece_byte c.args.b c.args.numbers.now c.args.used c.if-b-ne35.true) c.requires c.put_word.ensures
+    answer_as (piece_byte c.args.b c.args.numbers.now c.args.used c.if-b-ne35.true) c.requires (c.put_word.ensures.out_after, c.put_word.ensures.value)
 
 pub returns-then-numbers-used : goal.returns-then-numbers-used
 returns-then-numbers-used c =
@@ -20,4 +20,4 @@ returns-then-numbers-used c =
 pub returns : goal.returns
 returns c =
     answer_as (piece_number c.args.b c.args.numbers.now c.args.used c.if-b-ne35.false (omega arith) ∙ sym (append-nil (decimal _))) c.requires
-    c.put_numbered.ensures
+    (c.put_numbered.ensures.out_after, c.put_numbered.ensures.value)

@@ -33,10 +33,6 @@ loop-i-preserved c =
           c.put_piece-next.new.out c.put_piece-next.result c.put_piece-next.auto.out (put_as (piece_here c.args.form.now c.args.numbers.now c.loop-i.i c.loop-i.used c.loop-i.invariant.0) c.put_piece-next.ensures),
     )
 
-pub shape_of-out : goal.shape_of-out
-shape_of-out c =
-    c.loop-i.invariant.1.same
-
 pub returns : goal.returns
 returns c =
     put_as (pieces_whole c.args.form.now c.args.numbers.now) (pieces_ended _ _ _ _ c.loop-i.out c.loop-i.i c.loop-i.next c.loop-i.invariant.1 (omega arith))

@@ -13,4 +13,4 @@ made b {high} {low} e f = ap (λ (x : ℕ). x ∷ low ∷ []) e ∙ ap (λ (x : 
 
 pub returns : goal.returns
 returns c =
-    answer_as (sym (made c.args.b c.digit-high.ensures c.digit-low.ensures)) c.requires c.put_word.ensures
+    answer_as (sym (made c.args.b c.digit-high.ensures c.digit-low.ensures)) c.requires (c.put_word.ensures.out_after, c.put_word.ensures.value)

@@ -26,10 +26,6 @@ loop-i-preserved c =
     piece_put _ _ (so_far c.args.bytes.now) _ (piece c.args.bytes.now) (piece_more c.args.bytes.now) whole c.loop-i.out c.loop-i.i c.loop-i.next c.loop-i.invariant (omega arith)
     c.put_pair-next.new.out c.put_pair-next.result c.put_pair-next.auto.out c.put_pair-next.ensures
 
-pub shape_of-out : goal.shape_of-out
-shape_of-out c =
-    c.loop-i.invariant.same
-
 pub returns : goal.returns
 returns c =
     put_as (pieces_whole c.args.bytes.now) (pieces_ended _ _ _ _ c.loop-i.out c.loop-i.i c.loop-i.next c.loop-i.invariant (omega arith))

@@ -1,0 +1,27 @@
+-- `first_states` fills the states from the front. Invariant: the first i stand; what falls: playing - i. Assumes nothing.
+use Prim.Native.Nat.{ℕ, ◌-◌, ◌≤◌}
+use mathlib.Core.Path.{◌≡◌, ap, ◌∙◌}
+use mathlib.Core.List.{List}
+use native.Mathlib.Omega.{arith}
+use lib.ListN.{set}
+use Rattle.show.specs.declared.Show.{Show}
+use Rattle.show.specs.Limits.{session_at}
+use Rattle.show.specs.Lists.{listed, padded}
+use Rattle.show.proofs.Lists.{filled_none, filled_more}
+use Rattle.state.specs.declared.State.{State}
+use Rattle.state.specs.State.{no_state, first_state}
+use borrow.Author.Rules.{rules}
+use Rattle.run.proofs.first_states.Given as goal
+
+-- the state of session j, and the first i of them
+abbrev pub at : Show → ℕ → State
+at s j = first_state (session_at s j)
+
+abbrev pub to : Show → ℕ → List State
+to s i = padded 16 no_state (listed (at s) i)
+
+abbrev pub invariant-loop-i : goal.invariant-loop-i
+invariant-loop-i l = (l.states ≡ to l.show l.i) × (l.i ≤ l.show.playing)
+
+abbrev pub decreases-loop-i : goal.decreases-loop-i
+decreases-loop-i l = l.show.playing - l.i

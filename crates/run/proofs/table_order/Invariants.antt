@@ -1,0 +1,15 @@
+-- `table_order` fills an order from the front. Invariant: its first i places name themselves; what falls: playing - i. Assumes nothing.
+use Prim.Native.Nat.{ℕ, ◌-◌, ◌≤◌}
+use mathlib.Core.Path.{◌≡◌, ◌∙◌, ap}
+use mathlib.Core.List.{List}
+use native.Mathlib.Omega.{arith}
+use lib.ListN.{set}
+use Rattle.show.proofs.Lists.{filled_none, filled_more}
+use Rattle.run.specs.Opening.{table_order}
+use Rattle.run.proofs.table_order.Given as goal
+
+abbrev pub invariant-loop-i : goal.invariant-loop-i
+invariant-loop-i l = (l.order ≡ table_order l.i) × (l.i ≤ l.playing)
+
+abbrev pub decreases-loop-i : goal.decreases-loop-i
+decreases-loop-i l = l.playing - l.i

@@ -1,0 +1,217 @@
+-- `tried` refuses a show outside the limits, and otherwise tells whether the counts hold, with their times. Invariants: the times of the
+-- first i sessions stand there; the counts of the first k hold. What falls: playing - i; playing - k. Assumes nothing.
+use Prim.Native.Nat.{◌-◌, ◌≤◌, ◌<◌}
+use mathlib.Core.Path.{◌≡◌, sym, ap, subst, ◌∙◌}
+use native.Mathlib.Omega.{arith}
+use mir.Syntax.{w32}
+use mir.Val.{Fits}
+use borrow.Author.Rules.{rules}
+use Rattle.show.specs.declared.Show.{Show}
+use Rattle.show.specs.Limits.{ShowWithin, layout_at, session_at}
+use Rattle.show.proofs.Shows.{check_within}
+use Rattle.show.proofs.Checks.{tells_yes, tells_no}
+use Rattle.show.proofs.Lists.{filled_none}
+use Rattle.cost.specs.declared.Cost.{Cost}
+use Rattle.cost.specs.declared.worst.Worst.{Worst}
+use Rattle.cost.specs.Bound.{worst_time}
+use Rattle.cost.specs.Costs.{read_cost}
+use Rattle.cost.specs.WorstTimes.{takes_of}
+use Rattle.cost.proofs.Costs.{laid_below, layout_within, read_limited}
+use Rattle.cost.proofs.WorstTimes.{takes_granted}
+use Rattle.theory.specs.Shows.{load_of}
+use Rattle.count.proofs.Answers.{drive_block}
+use Rattle.verdict.specs.Answers.{set_of}
+use Rattle.verdict.specs.Steps.{time_most}
+use Rattle.verdict.proofs.Sets.{TimedTo, times_begun, times_body, times_ended, takes_told, time_same}
+use Rattle.trial.specs.Answers.{TrialIs, untried}
+use Rattle.trial.proofs.Trials.{HeldTo, held_begun, held_body, held_ended, held_broken, trial_holds, trial_fails}
+use Rattle.trial.proofs.tried.Goals as goal
+
+pub returns-in-Refused : goal.returns-in-Refused
+returns-in-Refused c =
+    subst (TrialIs _ _) (sym c.timed.ensures)
+    (untried _ (sym c.check-check.ensures ∙ c.in-Refused.is))
+
+pub loop-i-init : goal.loop-i-init
+loop-i-init c =
+    times_begun _ _ _ (filled_none 16 0 _)
+
+pub offset_bounds-show-i : goal.offset_bounds-show-i
+offset_bounds-show-i c =
+    let show : Show = c.args.show in
+    let within : ShowWithin c.args.show = check_within _ (sym c.check-check.ensures ∙ c.in_default.is) in
+    let shown : ShowWithin show = within in
+    let few : c.loop-i.i < 16 = let h = shown.counts.sessions in omega arith in
+    omega (arith, few)
+
+pub bounds-show-i : goal.bounds-show-i
+bounds-show-i c =
+    let show : Show = c.args.show in
+    let within : ShowWithin c.args.show = check_within _ (sym c.check-check.ensures ∙ c.in_default.is) in
+    let shown : ShowWithin show = within in
+    let few : c.loop-i.i < 16 = let h = shown.counts.sessions in omega arith in
+    few
+
+pub offset_bounds-show-at : goal.offset_bounds-show-at
+offset_bounds-show-at c =
+    let show : Show = c.args.show in
+    let within : ShowWithin c.args.show = check_within _ (sym c.check-check.ensures ∙ c.in_default.is) in
+    let shown : ShowWithin show = within in
+    let h = laid_below _ shown _ c.loop-i-test.true in omega arith
+
+pub bounds-show-at : goal.bounds-show-at
+bounds-show-at c =
+    let show : Show = c.args.show in
+    let within : ShowWithin c.args.show = check_within _ (sym c.check-check.ensures ∙ c.in_default.is) in
+    let shown : ShowWithin show = within in
+    let h = laid_below _ shown _ c.loop-i-test.true in omega arith
+
+pub offset_bounds-counts-i : goal.offset_bounds-counts-i
+offset_bounds-counts-i c =
+    let show : Show = c.args.show in
+    let within : ShowWithin c.args.show = check_within _ (sym c.check-check.ensures ∙ c.in_default.is) in
+    let shown : ShowWithin show = within in
+    let few : c.loop-i.i < 16 = let h = shown.counts.sessions in omega arith in
+    omega (arith, few)
+
+pub bounds-counts-i : goal.bounds-counts-i
+bounds-counts-i c =
+    let show : Show = c.args.show in
+    let within : ShowWithin c.args.show = check_within _ (sym c.check-check.ensures ∙ c.in_default.is) in
+    let shown : ShowWithin show = within in
+    let few : c.loop-i.i < 16 = let h = shown.counts.sessions in omega arith in
+    few
+
+pub returns-in_default-worst : goal.returns-in_default-worst
+returns-in_default-worst c =
+    let show : Show = c.args.show in
+    let within : ShowWithin c.args.show = check_within _ (sym c.check-check.ensures ∙ c.in_default.is) in
+    let shown : ShowWithin show = within in
+    let time_at : Worst = let s = show in
+    takes_of (read_cost (layout_at s (session_at s c.loop-i.i).layout)) s.drive.cylinder
+    (set_of c.args.counts c.loop-i.i) in
+    let asked : c.takes-worst.result ≡ time_at = let n = set_of c.args.counts c.loop-i.i in
+    c.takes-worst.ensures ∙ ap (λ (x : Cost). takes_of x show.drive.cylinder n) c.of_read-cost.ensures in
+    let w = shown in
+    takes_granted _ _ _ w.drive.cylinder (read_limited _ (layout_within _ w _ c.loop-i-test.true))
+    (sym asked ∙ c.in_default-worst.is)
+
+pub offset_bounds-times-i : goal.offset_bounds-times-i
+offset_bounds-times-i c =
+    let show : Show = c.args.show in
+    let within : ShowWithin c.args.show = check_within _ (sym c.check-check.ensures ∙ c.in_default.is) in
+    let shown : ShowWithin show = within in
+    let few : c.loop-i.i < 16 = let h = shown.counts.sessions in omega arith in
+    omega (arith, few)
+
+pub bounds-times-i : goal.bounds-times-i
+bounds-times-i c =
+    let show : Show = c.args.show in
+    let within : ShowWithin c.args.show = check_within _ (sym c.check-check.ensures ∙ c.in_default.is) in
+    let shown : ShowWithin show = within in
+    let few : c.loop-i.i < 16 = let h = shown.counts.sessions in omega arith in
+    few
+
+pub overflow_add-round : goal.overflow_add-round
+overflow_add-round c =
+    let show : Show = c.args.show in
+    let within : ShowWithin c.args.show = check_within _ (sym c.check-check.ensures ∙ c.in_default.is) in
+    let shown : ShowWithin show = within in
+    let time_at : Worst = let s = show in
+    takes_of (read_cost (layout_at s (session_at s c.loop-i.i).layout)) s.drive.cylinder
+    (set_of c.args.counts c.loop-i.i) in
+    let asked : c.takes-worst.result ≡ time_at = let n = set_of c.args.counts c.loop-i.i in
+    c.takes-worst.ensures ∙ ap (λ (x : Cost). takes_of x show.drive.cylinder n) c.of_read-cost.ensures in
+    let told : let s = show in
+    let n = set_of c.args.counts c.loop-i.i in
+    (c.in-Takes.time ≡ worst_time s.drive.cylinder (read_cost (layout_at s (session_at s c.loop-i.i).layout)) n)
+    × (c.in-Takes.time ≤ time_most) = let w = shown in
+    let n : Fits w32 (set_of c.args.counts c.loop-i.i) = search rules in
+    takes_told _ _ _ _ (layout_within _ w _ c.loop-i-test.true) w.drive.cylinder (omega arith)
+    (sym asked ∙ c.in-Takes.is) in
+    let few : c.loop-i.i < 16 = let h = shown.counts.sessions in omega arith in
+    let b = told.1 in let l = few in omega arith
+
+pub loop-i-smaller : goal.loop-i-smaller
+loop-i-smaller c =
+    omega arith
+
+pub loop-i-preserved : goal.loop-i-preserved
+loop-i-preserved c =
+    let show : Show = c.args.show in
+    let within : ShowWithin c.args.show = check_within _ (sym c.check-check.ensures ∙ c.in_default.is) in
+    let shown : ShowWithin show = within in
+    let time_at : Worst = let s = show in
+    takes_of (read_cost (layout_at s (session_at s c.loop-i.i).layout)) s.drive.cylinder
+    (set_of c.args.counts c.loop-i.i) in
+    let asked : c.takes-worst.result ≡ time_at = let n = set_of c.args.counts c.loop-i.i in
+    c.takes-worst.ensures ∙ ap (λ (x : Cost). takes_of x show.drive.cylinder n) c.of_read-cost.ensures in
+    let told : let s = show in
+    let n = set_of c.args.counts c.loop-i.i in
+    (c.in-Takes.time ≡ worst_time s.drive.cylinder (read_cost (layout_at s (session_at s c.loop-i.i).layout)) n)
+    × (c.in-Takes.time ≤ time_most) = let w = shown in
+    let n : Fits w32 (set_of c.args.counts c.loop-i.i) = search rules in
+    takes_told _ _ _ _ (layout_within _ w _ c.loop-i-test.true) w.drive.cylinder (omega arith)
+    (sym asked ∙ c.in-Takes.is) in
+    let e = told in
+    times_body _ _ _ _ _ _ shown c.loop-i.invariant c.loop-i-test.true (e.0 ∙ time_same _ _ _) e.1
+
+pub loop-k-init : goal.loop-k-init
+loop-k-init c =
+    held_begun _ _ _
+
+pub offset_bounds-show-k : goal.offset_bounds-show-k
+offset_bounds-show-k c =
+    let within : ShowWithin c.args.show = check_within _ (sym c.check-check.ensures ∙ c.in_default.is) in
+    let few2 : c.loop-k.k < 16 = let h = within.counts.sessions in omega arith in
+    omega (arith, few2)
+
+pub bounds-show-k : goal.bounds-show-k
+bounds-show-k c =
+    let within : ShowWithin c.args.show = check_within _ (sym c.check-check.ensures ∙ c.in_default.is) in
+    let few2 : c.loop-k.k < 16 = let h = within.counts.sessions in omega arith in
+    few2
+
+pub offset_bounds-counts-k : goal.offset_bounds-counts-k
+offset_bounds-counts-k c =
+    let within : ShowWithin c.args.show = check_within _ (sym c.check-check.ensures ∙ c.in_default.is) in
+    let few2 : c.loop-k.k < 16 = let h = within.counts.sessions in omega arith in
+    omega (arith, few2)
+
+pub bounds-counts-k : goal.bounds-counts-k
+bounds-counts-k c =
+    let within : ShowWithin c.args.show = check_within _ (sym c.check-check.ensures ∙ c.in_default.is) in
+    let few2 : c.loop-k.k < 16 = let h = within.counts.sessions in omega arith in
+    few2
+
+pub held-requires : goal.held-requires
+held-requires c =
+    let within : ShowWithin c.args.show = check_within _ (sym c.check-check.ensures ∙ c.in_default.is) in
+    let w = within in
+    (drive_block _ w.drive, (w.sessions _ c.loop-k-test.true).rate)
+
+pub returns-then-not-held : goal.returns-then-not-held
+returns-then-not-held c =
+    let within : ShowWithin c.args.show = check_within _ (sym c.check-check.ensures ∙ c.in_default.is) in
+    let w = within in
+    let r = times_ended _ _ _ _ _ w c.loop-i.invariant c.loop-i-test.false in
+    subst (TrialIs _ _) (sym c.timed-then-not-held.ensures)
+    (trial_fails _ w _ _ _ r.0 r.1
+    (held_broken _ _ _ _ c.loop-k-test.true (tells_no _ c.held.result c.if-not-held.true c.held.ensures)))
+
+pub loop-k-smaller : goal.loop-k-smaller
+loop-k-smaller c =
+    omega arith
+
+pub loop-k-preserved : goal.loop-k-preserved
+loop-k-preserved c =
+    held_body _ _ _ _ c.loop-k.invariant c.loop-k-test.true
+    (tells_yes _ c.held.result c.if-not-held.false c.held.ensures)
+
+pub returns : goal.returns
+returns c =
+    let within : ShowWithin c.args.show = check_within _ (sym c.check-check.ensures ∙ c.in_default.is) in
+    let w = within in
+    let r = times_ended _ _ _ _ _ w c.loop-i.invariant c.loop-i-test.false in
+    subst (TrialIs _ _) (sym c.timed-2.ensures)
+    (trial_holds _ w _ _ _ r.0 r.1 (held_ended _ _ _ _ c.loop-k.invariant c.loop-k-test.false))
