@@ -31,3 +31,8 @@ returns c =
     record { fits = omega (arith, pairs_length c.args.bytes.now) } in
     let e = sym some in
     let pair = put_answers (room_as e room) (put_as e c.put_pairs.ensures) in record { out_after = pair.0; value = pair.1 }
+
+pub put_pairs-requires : goal.put_pairs-requires
+put_pairs-requires c =
+    let f = tells_yes _ c.pairs_fit.result c.if-not-pairs_fit.false c.pairs_fit.ensures in
+    record { fits = omega (arith, pairs_length c.args.bytes.now) }

@@ -1,0 +1,12 @@
+-- `names_each` tells whether an order names each session once. Invariant: the first k places do, and are marked; what falls: playing - k. Assumes nothing.
+use Prim.Native.Nat.{◌-◌}
+use native.Mathlib.Omega.{arith}
+use Rattle.run_test.proofs.Named.{NamedTo, named_none, named_past, named_twice, named_more, named_all}
+use borrow.Author.Rules.{rules}
+use Rattle.run_test.proofs.names_each.Given as goal
+
+abbrev pub invariant-loop-k : goal.invariant-loop-k
+invariant-loop-k l = NamedTo l.order l.playing l.named l.k
+
+abbrev pub decreases-loop-k : goal.decreases-loop-k
+decreases-loop-k l = l.playing - l.k
