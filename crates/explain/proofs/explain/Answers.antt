@@ -27,5 +27,5 @@ returns c =
     let h = told_put _ said_most _ _ _ c.put_text-len.ensures (omega arith) in
     record {
       explain_is = h;
-      len_in_bounds = told_inside _ _ (said_most_holds _) _ _ _ h c.put_text-len.auto.out.0;
+      len_in_bounds = told_inside _ _ (said_most_holds _) _ _ _ h c.put_text-len.auto.out;
     }

@@ -22,9 +22,7 @@ pub returns-in_default : goal.returns-in_default
 returns-in_default c =
     test_damaged _
     (λ s.
-    trial_bad _ _ _ c.tried-trial.ensures
-    (λ e. elim (rw e at c.in_default.keys2) [ inl a ↦ (let f : ⊥ = omega arith in f) | inr b ↦ (let f : ⊥ = omega arith in f) ])
-    s.within s.counts)
+    trial_bad _ _ _ c.tried-trial.ensures c.in_default.not-Holds s.within s.counts)
 
 pub loop-i-init : goal.loop-i-init
 loop-i-init c =
@@ -115,85 +113,85 @@ returns-then-not-turns c =
 pub offset_bounds-order-place : goal.offset_bounds-order-place
 offset_bounds-order-place c =
     let given : Run = c.args.run in
-    let whole : Run = given) in
+    let whole : Run = given in
     let placed : AtPlace whole.order whole.counts whole.show.playing whole.place whole.left = tells_yes _ c.turns.result c.if-not-turns.false c.turns.ensures in
     let good : ShowWithin given.show × Good (load_of given.show) (set_of given.counts) = trial_good _ _ _ c.tried-trial.ensures c.in-Holds.is in
     let few : given.show.playing ≤ 16 = good.0.counts.sessions in
-    let place_few : whole.place < 16 = let p = placed.inside in let h = few) in omega arith in
+    let place_few : whole.place < 16 = let p = placed.inside in let h = few in omega arith in
     let b = place_few in omega arith
 
 pub bounds-order-place : goal.bounds-order-place
 bounds-order-place c =
     let given : Run = c.args.run in
-    let whole : Run = given) in
+    let whole : Run = given in
     let placed : AtPlace whole.order whole.counts whole.show.playing whole.place whole.left = tells_yes _ c.turns.result c.if-not-turns.false c.turns.ensures in
     let good : ShowWithin given.show × Good (load_of given.show) (set_of given.counts) = trial_good _ _ _ c.tried-trial.ensures c.in-Holds.is in
     let few : given.show.playing ≤ 16 = good.0.counts.sessions in
-    let place_few : whole.place < 16 = let p = placed.inside in let h = few) in omega arith in
+    let place_few : whole.place < 16 = let p = placed.inside in let h = few in omega arith in
     place_few
 
 pub overflow_cast-seat : goal.overflow_cast-seat
 overflow_cast-seat c =
     let given : Run = c.args.run in
-    let whole : Run = given) in
+    let whole : Run = given in
     let names : NamesEach given.order given.show.playing = tells_yes _ c.names_each.result c.if-not-names_each.false c.names_each.ensures in
     let placed : AtPlace whole.order whole.counts whole.show.playing whole.place whole.left = tells_yes _ c.turns.result c.if-not-turns.false c.turns.ensures in
     let good : ShowWithin given.show × Good (load_of given.show) (set_of given.counts) = trial_good _ _ _ c.tried-trial.ensures c.in-Holds.is in
     let few : given.show.playing ≤ 16 = good.0.counts.sessions in
     let seat_few : seat_at whole whole.place < 16 = let b = names_below _ _ names _ placed.inside in
-    let h = few) in
+    let h = few in
     omega arith in
     let b = seat_few in omega arith
 
 pub offset_bounds-run-seat : goal.offset_bounds-run-seat
 offset_bounds-run-seat c =
     let given : Run = c.args.run in
-    let whole : Run = given) in
+    let whole : Run = given in
     let names : NamesEach given.order given.show.playing = tells_yes _ c.names_each.result c.if-not-names_each.false c.names_each.ensures in
     let placed : AtPlace whole.order whole.counts whole.show.playing whole.place whole.left = tells_yes _ c.turns.result c.if-not-turns.false c.turns.ensures in
     let good : ShowWithin given.show × Good (load_of given.show) (set_of given.counts) = trial_good _ _ _ c.tried-trial.ensures c.in-Holds.is in
     let few : given.show.playing ≤ 16 = good.0.counts.sessions in
     let seat_few : seat_at whole whole.place < 16 = let b = names_below _ _ names _ placed.inside in
-    let h = few) in
+    let h = few in
     omega arith in
     let b = seat_few in omega arith
 
 pub bounds-run-seat : goal.bounds-run-seat
 bounds-run-seat c =
     let given : Run = c.args.run in
-    let whole : Run = given) in
+    let whole : Run = given in
     let names : NamesEach given.order given.show.playing = tells_yes _ c.names_each.result c.if-not-names_each.false c.names_each.ensures in
     let placed : AtPlace whole.order whole.counts whole.show.playing whole.place whole.left = tells_yes _ c.turns.result c.if-not-turns.false c.turns.ensures in
     let good : ShowWithin given.show × Good (load_of given.show) (set_of given.counts) = trial_good _ _ _ c.tried-trial.ensures c.in-Holds.is in
     let few : given.show.playing ≤ 16 = good.0.counts.sessions in
     let seat_few : seat_at whole whole.place < 16 = let b = names_below _ _ names _ placed.inside in
-    let h = few) in
+    let h = few in
     omega arith in
     seat_few
 
 pub offset_bounds-show-seat : goal.offset_bounds-show-seat
 offset_bounds-show-seat c =
     let given : Run = c.args.run in
-    let whole : Run = given) in
+    let whole : Run = given in
     let names : NamesEach given.order given.show.playing = tells_yes _ c.names_each.result c.if-not-names_each.false c.names_each.ensures in
     let placed : AtPlace whole.order whole.counts whole.show.playing whole.place whole.left = tells_yes _ c.turns.result c.if-not-turns.false c.turns.ensures in
     let good : ShowWithin given.show × Good (load_of given.show) (set_of given.counts) = trial_good _ _ _ c.tried-trial.ensures c.in-Holds.is in
     let few : given.show.playing ≤ 16 = good.0.counts.sessions in
     let seat_few : seat_at whole whole.place < 16 = let b = names_below _ _ names _ placed.inside in
-    let h = few) in
+    let h = few in
     omega arith in
     let b = seat_few in omega arith
 
 pub bounds-show-seat : goal.bounds-show-seat
 bounds-show-seat c =
     let given : Run = c.args.run in
-    let whole : Run = given) in
+    let whole : Run = given in
     let names : NamesEach given.order given.show.playing = tells_yes _ c.names_each.result c.if-not-names_each.false c.names_each.ensures in
     let placed : AtPlace whole.order whole.counts whole.show.playing whole.place whole.left = tells_yes _ c.turns.result c.if-not-turns.false c.turns.ensures in
     let good : ShowWithin given.show × Good (load_of given.show) (set_of given.counts) = trial_good _ _ _ c.tried-trial.ensures c.in-Holds.is in
     let few : given.show.playing ≤ 16 = good.0.counts.sessions in
     let seat_few : seat_at whole whole.place < 16 = let b = names_below _ _ names _ placed.inside in
-    let h = few) in
+    let h = few in
     omega arith in
     seat_few
 
@@ -201,7 +199,7 @@ pub returns : goal.returns
 returns c =
     let given : Run = c.args.run in
     let good : ShowWithin given.show × Good (load_of given.show) (set_of given.counts) = trial_good _ _ _ c.tried-trial.ensures c.in-Holds.is in
-    let whole : Run = given) in
+    let whole : Run = given in
     let placed : AtPlace whole.order whole.counts whole.show.playing whole.place whole.left = tells_yes _ c.turns.result c.if-not-turns.false c.turns.ensures in
     let names : NamesEach given.order given.show.playing = tells_yes _ c.names_each.result c.if-not-names_each.false c.names_each.ensures in
     let g = good in

@@ -1,0 +1,11 @@
+use borrow.Author.Rules.{rules}
+use native.Mathlib.Omega.{arith}
+use Rattle.chikchiro.proofs.Rows.{Filled, row_begun, row_more, row_ended}
+use Prim.Native.Nat.{◌-◌}
+use Rattle.chikchiro.proofs.put_times.Given as goal
+
+abbrev pub invariant-loop-i : goal.invariant-loop-i
+invariant-loop-i l = Filled l.initial.out l.times 16 l.out l.i
+
+abbrev pub decreases-loop-i : goal.decreases-loop-i
+decreases-loop-i l = 16 - l.i
