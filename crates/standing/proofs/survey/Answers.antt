@@ -1,0 +1,20 @@
+-- `survey` tells how the sessions of a sound run stand. Assumes nothing.
+use Rattle.standing.proofs.Standings.{trial_times, surveyed}
+use mathlib.Core.Path.{◌∙◌}
+use Rattle.order.proofs.Orders.{placed_few}
+use borrow.Author.Rules.{rules}
+use Rattle.standing.proofs.survey.Goals as goal
+
+pub tried-trial-requires : goal.tried-trial-requires
+tried-trial-requires c =
+    search rules
+
+pub aheads-aheads-requires : goal.aheads-aheads-requires
+aheads-aheads-requires c =
+    c.requires
+
+pub returns : goal.returns
+returns c =
+    surveyed c.args.run _ _ _ c.aheads-aheads.ensures
+    (trial_times c.args.run c.requires _ c.tried-trial.ensures)
+    (c.places-places.ensures ∙ placed_few _ _ c.requires.within.counts.sessions)
