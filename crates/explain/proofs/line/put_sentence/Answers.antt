@@ -42,30 +42,37 @@ unfolding sentence
 last t was after at next e f none room = answer_as (spoken_plainly Unit (sentences t.place) t.number none) room (e, f)
 
 pub returns-in-1 : goal.returns-in-1
+unfolding spoken ℕ_discrete
 returns-in-1 c =
     arm c.args.told 1 _ _ _ _ _ c.put_word.ensures.out_after c.put_word.ensures.value c.in-1.is refl c.requires
 
 pub returns-in-2 : goal.returns-in-2
+unfolding spoken ℕ_discrete
 returns-in-2 c =
     arm c.args.told 2 _ _ _ _ _ c.put_word-in-2.ensures.out_after c.put_word-in-2.ensures.value c.in-2.is refl c.requires
 
 pub returns-in-3 : goal.returns-in-3
+unfolding spoken ℕ_discrete
 returns-in-3 c =
     arm c.args.told 3 _ _ _ _ _ c.put_word-in-3.ensures.out_after c.put_word-in-3.ensures.value c.in-3.is refl c.requires
 
 pub returns-in-4 : goal.returns-in-4
+unfolding spoken ℕ_discrete
 returns-in-4 c =
     arm c.args.told 4 _ _ _ _ _ c.put_word-in-4.ensures.out_after c.put_word-in-4.ensures.value c.in-4.is refl c.requires
 
 pub returns-in-5 : goal.returns-in-5
+unfolding spoken ℕ_discrete
 returns-in-5 c =
     arm c.args.told 5 _ _ _ _ _ c.put_word-in-5.ensures.out_after c.put_word-in-5.ensures.value c.in-5.is refl c.requires
 
 pub returns-in-6 : goal.returns-in-6
+unfolding spoken ℕ_discrete
 returns-in-6 c =
     arm c.args.told 6 _ _ _ _ _ c.put_layout.ensures.out_after c.put_layout.ensures.value c.in-6.is refl c.requires
 
 pub returns-in-7 : goal.returns-in-7
+unfolding spoken ℕ_discrete
 returns-in-7 c =
     arm c.args.told 7 _ _ _ _ _ c.put_clip.ensures.out_after c.put_clip.ensures.value c.in-7.is refl c.requires
 
