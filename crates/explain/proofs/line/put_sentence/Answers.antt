@@ -3,6 +3,7 @@ use mathlib.Core.Path.{◌≡◌, refl, ap, ◌∙◌}
 use mathlib.Core.List.{List, [], ◌∷◌}
 use mathlib.Core.Logic.{if_neg}
 use Prim.Native.Nat.{ℕ}
+use native.Mathlib.Omega.{arith}
 use native.Mathlib.Decide.{ℕ_discrete}
 use Rattle.show.specs.declared.refusal.Told.{Told}
 use Rattle.text.specs.Puts.{put_over, put_to, FitsAt, Put}
@@ -77,4 +78,4 @@ returns-in-7 c =
     arm c.args.told 7 _ _ _ _ _ c.put_clip.ensures.out_after c.put_clip.ensures.value c.in-7.is refl c.requires
 
 pub returns-in_default : goal.returns-in_default
-returns-in_default c = last c.args.told _ _ _ _ c.put_word-in_default.ensures.out_after c.put_word-in_default.ensures.value ? c.requires
+returns-in_default c = last c.args.told _ _ _ _ c.put_word-in_default.ensures.out_after c.put_word-in_default.ensures.value (((((((tt, λ e. omega arith), λ e. omega arith), λ e. omega arith), λ e. omega arith), λ e. omega arith), λ e. omega arith), λ e. omega arith) c.requires

@@ -44,7 +44,7 @@ bounds-s-i-in-loop-i-2 c =
 pub returns-then-not-one_small : goal.returns-then-not-one_small
 returns-then-not-one_small c =
     let ahead_is : to_z w64 (of_z w64 (ahead_in c.args.s.aheads c.loop-i.i))
-    ≡ ahead_in c.args.s.aheads c.loop-i.i = to_z-of_z (record { sfits = c.one_small-arg-in-loop-i-1.given }) in
+    ≡ ahead_in c.args.s.aheads c.loop-i.i = to_z-of_z {w = w64} (record { sfits = c.one_small-arg-in-loop-i-1.given }) in
     λ h.
     (tells_no _ c.one_small.result c.if-not-one_small.true c.one_small.ensures
     (rw ahead_is (h _ c.loop-i-test.true)))
@@ -61,7 +61,7 @@ loop-i-smaller c =
 pub loop-i-preserved : goal.loop-i-preserved
 loop-i-preserved c =
     let ahead_is : to_z w64 (of_z w64 (ahead_in c.args.s.aheads c.loop-i.i))
-    ≡ ahead_in c.args.s.aheads c.loop-i.i = to_z-of_z (record { sfits = c.one_small-arg-in-loop-i-1.given }) in
+    ≡ ahead_in c.args.s.aheads c.loop-i.i = to_z-of_z {w = w64} (record { sfits = c.one_small-arg-in-loop-i-1.given }) in
     let small = rw ahead_is at (tells_yes _ c.one_small.result c.if-not-one_small.false c.one_small.ensures) in
     (below_more _ _ c.loop-i.invariant.0 small, (omega arith))
 

@@ -18,18 +18,34 @@ use Rattle.standing.proofs.least.least.Goals as goal
 
 pub offset_bounds-s-first : goal.offset_bounds-s-first
 offset_bounds-s-first c =
+    let given : Standing = c.args.s in
+    let seated : ℕ → ℕ = λ k. seat_in c.ordered-seats.result k in
+    let seats : Seated (place_in given.places) seated given.playing = named_seats (place_in given.places) given.playing _ c.requires.fit.few c.requires.fit.below c.requires.fit.apart _ (c.ordered-seats.ensures ∙ ordered_few _ _ _ c.requires.fit.few) in
+    let few : (k : ℕ) → k < given.playing → seated k < 16 = λ k l. let i = seats.inside k l in omega arith in
     let l = few 0 c.requires.playing_nonzero in omega arith
 
 pub bounds-s-first : goal.bounds-s-first
 bounds-s-first c =
+    let given : Standing = c.args.s in
+    let seated : ℕ → ℕ = λ k. seat_in c.ordered-seats.result k in
+    let seats : Seated (place_in given.places) seated given.playing = named_seats (place_in given.places) given.playing _ c.requires.fit.few c.requires.fit.below c.requires.fit.apart _ (c.ordered-seats.ensures ∙ ordered_few _ _ _ c.requires.fit.few) in
+    let few : (k : ℕ) → k < given.playing → seated k < 16 = λ k l. let i = seats.inside k l in omega arith in
     few 0 c.requires.playing_nonzero
 
 pub offset_bounds-s-first-2 : goal.offset_bounds-s-first-2
 offset_bounds-s-first-2 c =
+    let given : Standing = c.args.s in
+    let seated : ℕ → ℕ = λ k. seat_in c.ordered-seats.result k in
+    let seats : Seated (place_in given.places) seated given.playing = named_seats (place_in given.places) given.playing _ c.requires.fit.few c.requires.fit.below c.requires.fit.apart _ (c.ordered-seats.ensures ∙ ordered_few _ _ _ c.requires.fit.few) in
+    let few : (k : ℕ) → k < given.playing → seated k < 16 = λ k l. let i = seats.inside k l in omega arith in
     let l = few 0 c.requires.playing_nonzero in omega arith
 
 pub bounds-s-first-2 : goal.bounds-s-first-2
 bounds-s-first-2 c =
+    let given : Standing = c.args.s in
+    let seated : ℕ → ℕ = λ k. seat_in c.ordered-seats.result k in
+    let seats : Seated (place_in given.places) seated given.playing = named_seats (place_in given.places) given.playing _ c.requires.fit.few c.requires.fit.below c.requires.fit.apart _ (c.ordered-seats.ensures ∙ ordered_few _ _ _ c.requires.fit.few) in
+    let few : (k : ℕ) → k < given.playing → seated k < 16 = λ k l. let i = seats.inside k l in omega arith in
     few 0 c.requires.playing_nonzero
 
 pub net-least-requires : goal.net-least-requires
@@ -37,7 +53,7 @@ net-least-requires c =
     let given : Standing = c.args.s in
     let seated : ℕ → ℕ = λ k. seat_in c.ordered-seats.result k in
     let first : ℤ = ahead_in given.aheads (seated 0) in
-    let first_ahead : to_z w64 (of_z w64 first) ≡ first = to_z-of_z (record { sfits = c.net-arg-1.given }) in
+    let first_ahead : to_z w64 (of_z w64 first) ≡ first = to_z-of_z {w = w64} (record { sfits = c.net-arg-1.given }) in
     let seats : Seated (place_in given.places) seated given.playing = named_seats (place_in given.places) given.playing _ c.requires.fit.few c.requires.fit.below c.requires.fit.apart _ (c.ordered-seats.ensures ∙ ordered_few _ _ _ c.requires.fit.few) in
     (rw first_ahead (c.requires.fit.aheads _ (seats.inside 0 c.requires.playing_nonzero)), first_small given c.ordered-seats.result seats c.requires.fit c.requires.playing_nonzero)
 
@@ -46,7 +62,7 @@ loop-k-init c =
     let given : Standing = c.args.s in
     let seated : ℕ → ℕ = λ k. seat_in c.ordered-seats.result k in
     let first : ℤ = ahead_in given.aheads (seated 0) in
-    let first_ahead : to_z w64 (of_z w64 first) ≡ first = to_z-of_z (record { sfits = c.net-arg-1.given }) in
+    let first_ahead : to_z w64 (of_z w64 first) ≡ first = to_z-of_z {w = w64} (record { sfits = c.net-arg-1.given }) in
     let seats : Seated (place_in given.places) seated given.playing = named_seats (place_in given.places) given.playing _ c.requires.fit.few c.requires.fit.below c.requires.fit.apart _ (c.ordered-seats.ensures ∙ ordered_few _ _ _ c.requires.fit.few) in
     let e : to_z w64 (of_z w64 c.net-least.result) ≡ c.net-least.result = search rules in
     let n = ap (λ (z : ℤ). z -ℤ pos (set_of given.times (seated 0))) first_ahead in
@@ -66,6 +82,9 @@ pub offset_bounds-s-i : goal.offset_bounds-s-i
 offset_bounds-s-i c =
     let seated : ℕ → ℕ = λ k. seat_in c.ordered-seats.result k in
     let here : ℕ = seated c.loop-k.k in
+    let given : Standing = c.args.s in
+    let seats : Seated (place_in given.places) seated given.playing = named_seats (place_in given.places) given.playing _ c.requires.fit.few c.requires.fit.below c.requires.fit.apart _ (c.ordered-seats.ensures ∙ ordered_few _ _ _ c.requires.fit.few) in
+    let few : (k : ℕ) → k < given.playing → seated k < 16 = λ k l. let i = seats.inside k l in omega arith in
     let seat : here < 16 = few _ c.loop-k-test.true in
     let l = seat in omega arith
 
@@ -73,6 +92,9 @@ pub bounds-s-i : goal.bounds-s-i
 bounds-s-i c =
     let seated : ℕ → ℕ = λ k. seat_in c.ordered-seats.result k in
     let here : ℕ = seated c.loop-k.k in
+    let given : Standing = c.args.s in
+    let seats : Seated (place_in given.places) seated given.playing = named_seats (place_in given.places) given.playing _ c.requires.fit.few c.requires.fit.below c.requires.fit.apart _ (c.ordered-seats.ensures ∙ ordered_few _ _ _ c.requires.fit.few) in
+    let few : (k : ℕ) → k < given.playing → seated k < 16 = λ k l. let i = seats.inside k l in omega arith in
     let seat : here < 16 = few _ c.loop-k-test.true in
     seat
 
@@ -90,6 +112,9 @@ pub offset_bounds-s-i-in-loop-k : goal.offset_bounds-s-i-in-loop-k
 offset_bounds-s-i-in-loop-k c =
     let seated : ℕ → ℕ = λ k. seat_in c.ordered-seats.result k in
     let here : ℕ = seated c.loop-k.k in
+    let given : Standing = c.args.s in
+    let seats : Seated (place_in given.places) seated given.playing = named_seats (place_in given.places) given.playing _ c.requires.fit.few c.requires.fit.below c.requires.fit.apart _ (c.ordered-seats.ensures ∙ ordered_few _ _ _ c.requires.fit.few) in
+    let few : (k : ℕ) → k < given.playing → seated k < 16 = λ k l. let i = seats.inside k l in omega arith in
     let seat : here < 16 = few _ c.loop-k-test.true in
     let l = seat in omega arith
 
@@ -97,6 +122,9 @@ pub bounds-s-i-in-loop-k : goal.bounds-s-i-in-loop-k
 bounds-s-i-in-loop-k c =
     let seated : ℕ → ℕ = λ k. seat_in c.ordered-seats.result k in
     let here : ℕ = seated c.loop-k.k in
+    let given : Standing = c.args.s in
+    let seats : Seated (place_in given.places) seated given.playing = named_seats (place_in given.places) given.playing _ c.requires.fit.few c.requires.fit.below c.requires.fit.apart _ (c.ordered-seats.ensures ∙ ordered_few _ _ _ c.requires.fit.few) in
+    let few : (k : ℕ) → k < given.playing → seated k < 16 = λ k l. let i = seats.inside k l in omega arith in
     let seat : here < 16 = few _ c.loop-k-test.true in
     seat
 
@@ -106,7 +134,7 @@ net-spare-requires c =
     let seated : ℕ → ℕ = λ k. seat_in c.ordered-seats.result k in
     let here : ℕ = seated c.loop-k.k in
     let next : ℤ = ahead_in given.aheads here in
-    let next_ahead : to_z w64 (of_z w64 next) ≡ next = to_z-of_z (record { sfits = c.net-arg-in-loop-k-1.given }) in
+    let next_ahead : to_z w64 (of_z w64 next) ≡ next = to_z-of_z {w = w64} (record { sfits = c.net-arg-in-loop-k-1.given }) in
     let seats : Seated (place_in given.places) seated given.playing = named_seats (place_in given.places) given.playing _ c.requires.fit.few c.requires.fit.below c.requires.fit.apart _ (c.ordered-seats.ensures ∙ ordered_few _ _ _ c.requires.fit.few) in
     let load : ℕ = c.loop-k.sum + set_of given.times here in
     let small : load ≤ 2 ^ 61 = next_small given c.ordered-seats.result seats c.requires.fit _ _ c.loop-k-test.true c.loop-k.invariant.times in
@@ -129,18 +157,17 @@ loop-k-preserved c =
     let here : ℕ = seated c.loop-k.k in
     let load : ℕ = c.loop-k.sum + set_of given.times here in
     let next : ℤ = ahead_in given.aheads here in
-    let next_ahead : to_z w64 (of_z w64 next) ≡ next = to_z-of_z (record { sfits = c.net-arg-in-loop-k-1.given }) in
+    let next_ahead : to_z w64 (of_z w64 next) ≡ next = to_z-of_z {w = w64} (record { sfits = c.net-arg-in-loop-k-1.given }) in
     let spare_is : to_z w64 (of_z w64 c.net-spare.result) ≡ next -ℤ pos load = let e : to_z w64 (of_z w64 c.net-spare.result) ≡ c.net-spare.result = search rules in
     e ∙ c.net-spare.ensures ∙ ap (λ (z : ℤ). z -ℤ pos load) next_ahead in
-    let seats = seats in
     let to : ℕ → Type 0 = λ x. LeastTo given c.ordered-seats.result load (to_z w64 x) (c.loop-k.k + 1) in
     elim c.if-spare-least.branch [
-      | inl w ↦
-          subst to (sym w.1)
-          (turned_less given c.ordered-seats.result seats _ _ _ _ c.loop-k.invariant c.loop-k-test.true spare_is (test_less w.0.taken))
-      | inr w ↦
-          subst to (sym w.1)
-          (turned_more given c.ordered-seats.result seats _ _ _ _ c.loop-k.invariant c.loop-k-test.true spare_is (test_not w.0.left))
+      goal.then-spare-least w ↦
+          subst to (sym w.least-is-bits)
+          (turned_less given c.ordered-seats.result seats _ _ _ _ c.loop-k.invariant c.loop-k-test.true spare_is (test_less w.if-spare-least.true))
+      | goal.else-spare-least w ↦
+          subst to (sym w.least-is-bits)
+          (turned_more given c.ordered-seats.result seats _ _ _ _ c.loop-k.invariant c.loop-k-test.true spare_is (test_not w.if-spare-least.false))
     ]
 
 pub returns : goal.returns

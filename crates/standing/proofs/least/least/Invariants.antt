@@ -17,7 +17,7 @@ use borrow.Author.Rules.{rules}
 use Rattle.standing.proofs.least.least.Given as goal
 
 abbrev pub invariant-loop-k : goal.invariant-loop-k
-invariant-loop-k l = LeastTo l.s l.seats l.sum (to_z w64 l.least) l.k
+invariant-loop-k l = LeastTo l.s l.seats l.sum l.least l.k
 
 abbrev pub decreases-loop-k : goal.decreases-loop-k
 decreases-loop-k l = l.s.playing - l.k
