@@ -1,5 +1,5 @@
-"""bench/measure.py EMULATOR TOOLS PROVED OTHER: runs the jobs of bench/jobs.py by the proved program and by the one in C, and prints what they cost against each other.
-EMULATOR is - where programs run as they are. bench/run calls it."""
+"""bench/measure.py PROVED OTHER: runs the jobs of bench/jobs.py by the proved program and by the one in C, and prints what they cost against each other.
+bench/run calls it."""
 import re, subprocess, sys, time
 from jobs import hexed_file, overloaded, p7, saturated, typical
 
@@ -9,17 +9,14 @@ FEW, MORE = 8, 24 # turns whose instructions are counted: the difference is what
 NOTE = b'Notes of the designer, as long as they may well be.'
 
 class Bench:
-    def __init__(self, emulator, tools, proved, other):
-        self.emulator = [] if emulator == '-' else [emulator]
-        # The proved program as rt runs it.
-        self.proved = [tools + '/lib/ld-linux-x86-64.so.2', '--library-path', tools + '/lib', proved]
-        self.other = [other]
+    def __init__(self, proved, other):
+        self.proved, self.other = [proved], [other]
         self.answers = {}
 
     def run(self, program, job, turns):
         line = '%s %d %s\n' % (job[0], turns, job[1])
         begun = time.perf_counter()
-        done = subprocess.run(self.emulator + program, input=line, capture_output=True, text=True, check=True)
+        done = subprocess.run(program, input=line, capture_output=True, text=True, check=True)
         return time.perf_counter() - begun, done.stdout
 
     def said(self, program, job, turns):
@@ -50,17 +47,8 @@ class Bench:
     def counted(self, program, job, turns):
         """The instructions of a whole run."""
         line = '%s %d %s\n' % (job[0], turns, job[1])
-        if not self.emulator:
-            told = subprocess.run(['valgrind', '--tool=callgrind', '--callgrind-out-file=/dev/null'] + program, input=line, capture_output=True, text=True, check=True)
-            return int(re.search(r'Collected : (\d+)', told.stderr)[1])
-        traced = self.emulator + ['-one-insn-per-tb', '-d', 'exec,nochain', '-D', '/dev/stderr'] + program
-        done = subprocess.Popen(traced, stdin=subprocess.PIPE, stdout=subprocess.DEVNULL, stderr=subprocess.PIPE)
-        done.stdin.write(line.encode())
-        done.stdin.close()
-        count = sum(chunk.count(b'\n') for chunk in iter(lambda: done.stderr.read(1 << 20), b''))
-        if done.wait() != 0:
-            sys.exit('%s could not be traced' % job[0])
-        return count
+        told = subprocess.run(['valgrind', '--tool=callgrind', '--callgrind-out-file=/dev/null'] + program, input=line, capture_output=True, text=True, check=True)
+        return int(re.search(r'Collected : (\d+)', told.stderr)[1])
 
     def instructions(self, program, job, turns):
         """What a turn takes."""

@@ -3,7 +3,7 @@
  * A show file (docs/RULES.md, section 6) is asked about as it stands in memory. Each call reads the file, decides, and answers into
  * memory of yours. It keeps nothing between calls, has no heap and reads and writes nothing else, so calls may be made from any thread.
  *
- * Link with libchikchiro.a, which `rt staticlib chikchiro` writes to target/staticlib. It is for x86-64 Linux, and of the C library it uses
+ * Link with libchikchiro.a, which ./archive writes to target/staticlib. It is for x86-64 Linux (x86-64-v2), and of the C library it uses
  * memcpy and memset alone. From Rust, declare the same functions in an extern "C" block.
  *
  * Every array is passed as a pointer and then a length: of the file and the text in bytes, of the others in elements. You need check

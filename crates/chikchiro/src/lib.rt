@@ -1,4 +1,4 @@
-// The calls for C, C++ and Rust, over numbers and slices: include/chikchiro.h says how to make them.
+// The calls for C, C++ and Rust, over numbers and slices. chikchiro_c exports them, and include/chikchiro.h says how to make them.
 #![tactic(auto)]
 
 ghost use Rattle.std.specs.Prelude.{◌≡◌, ◌∷◌, [], ◌≤◌, ◌<◌, length};
@@ -14,8 +14,7 @@ use verdict::{Decision, Verdict};
 const SHORT: u64 = 16;
 
 // The calculator's text for a file, from the buffer's first byte on, and its length; 0 for a buffer that would not take every text.
-#[unsafe(no_mangle)]
-pub extern "C" fn chikchiro_report(file: &[u8], buffer: &mut [u8]) -> usize
+pub fn chikchiro_report(file: &[u8], buffer: &mut [u8]) -> usize
     ensures { ReportedIs file.now buffer.old result buffer.new }
 {
     let told = report::report(file, buffer);
@@ -23,8 +22,7 @@ pub extern "C" fn chikchiro_report(file: &[u8], buffer: &mut [u8]) -> usize
 }
 
 // The verdict on a file: 0 with the counts, their times and L; else the number of the refusal and 256 times its place, and no slice changes.
-#[unsafe(no_mangle)]
-pub extern "C" fn chikchiro_decide(
+pub fn chikchiro_decide(
     file: &[u8],
     counts: &mut [u32],
     times: &mut [u64],
@@ -55,8 +53,7 @@ pub extern "C" fn chikchiro_decide(
 }
 
 // Why a file is refused: 0 with the reason, the session and the size; else as of the verdict.
-#[unsafe(no_mangle)]
-pub extern "C" fn chikchiro_reason(file: &[u8], reason: &mut [u64]) -> u64
+pub fn chikchiro_reason(file: &[u8], reason: &mut [u64]) -> u64
     ensures { ReasonedIs file.now reason.old result reason.new }
 {
     if reason.len() < 3 {

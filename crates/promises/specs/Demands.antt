@@ -57,7 +57,7 @@ pub record Second : Type 0 where
   -- the counts are the smallest for every clip at once;
   pub verdicts : Verdicts
   -- files, clocks, spare time and next reads follow the written rules to the microsecond; (The rules are the definitions that the
-  -- contracts name: readOf, noteOf, writtenOf and buffer_of of a file, pass_of, takeOf and finish_of of the clocks, choose_of of the next read.
+  -- contracts name: read_of, note_of, written_of and buffer_of of a file, pass_of, take_of and finish_of of the clocks, choose_of of the next read.
   -- What is laid down of them: the laws of a run; that nothing looks at unused places; how spare time is rounded and ordered; the worked numbers;
   -- the calculator's lines.)
   pub runs : Runs
