@@ -1,9 +1,10 @@
-// Standard input, read into a lent room. What comes in no contract can say: they say where it stands, and what stays as it was.
+// What a reader gives, as standard input, read into a lent room. What comes of standard input no contract can say: they say where it
+// stands, and what stays as it was.
 #![tactic(auto)]
 
 ghost use Rattle.std.specs.Prelude.{◌≡◌, true, ◌-◌, ◌≤◌, length, take};
 
-use libc::STDIN_FILENO;
+use std::io::Read;
 
 // How many bytes came, and whether a read failed.
 #[derive(Clone, Copy)]
@@ -13,12 +14,12 @@ pub struct Came {
 }
 
 // Reads until the input ends, the room is full or a read fails: a pipe may give its bytes in pieces.
-pub fn read_all(room: &mut [u8]) -> Came
+pub fn read_all<R: Read>(input: &mut R, room: &mut [u8]) -> Came
     ensures { result.len ≤ length room.new }
 {
     let mut at = 0;
     while at < room.len() {
-        let came = read_at(room, at);
+        let came = read_at(input, room, at);
         if came.len == 0 {
             return Came {
                 len: at,
@@ -34,7 +35,7 @@ pub fn read_all(room: &mut [u8]) -> Came
 }
 
 // One read, from `at` on; no bytes at the end of the input or of the room, or where the read failed. What stands before `at` stays.
-pub fn read_at(room: &mut [u8], at: usize) -> Came
+pub fn read_at<R: Read>(input: &mut R, room: &mut [u8], at: usize) -> Came
     ensures len_in_bounds { result.len ≤ length room.new - at }
     ensures room_unchanged { take at room.new ≡ take at room.old }
     ensures len_value { result.failed ≡ true → result.len ≡ 0 }
@@ -45,10 +46,9 @@ pub fn read_at(room: &mut [u8], at: usize) -> Came
             failed: false,
         };
     }
-    let part: &mut [u8] = &mut room[at..];
-    let got = libc::read(STDIN_FILENO, part);
+    let got = input.read(&mut room[at..]);
     Came {
-        len: io::count(got, part),
-        failed: got < 0,
+        failed: got.is_err(),
+        len: got.unwrap_or(0),
     }
 }

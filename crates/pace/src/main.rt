@@ -11,7 +11,7 @@ mod runs;
 mod shows;
 mod sums;
 
-use libc::{STDIN_FILENO, STDOUT_FILENO};
+use input::read_all;
 use parse::{find, part, parts, same};
 use parse_numbers::{Number, decimal, unhex};
 use show::Show;
@@ -41,10 +41,10 @@ enum Kind {
     Unknown,
 }
 
-fn main() {
+fn main(rt: HostRuntime) {
     let mut text = room();
-    let n = io::read_full(STDIN_FILENO, &mut text);
-    answers(&text[..n]);
+    let n = read_all(&mut rt.stdin(), &mut text).len;
+    answers(&rt, &text[..n]);
 }
 
 // Room for all of the input. Apart from `main`, whose proof then need not look at a million zeros.
@@ -53,32 +53,32 @@ fn room() -> [u8; 1_048_576] {
 }
 
 // The last line may end with a newline or not.
-fn answers(text: &[u8]) {
+fn answers(rt: &impl Print, text: &[u8]) {
     let mut from = 0;
     let mut i = 1;
     while from < text.len() {
         let rest = &text[from..];
         let n = find(rest, b'\n');
-        answer(&rest[0..n], i);
+        answer(rt, &rest[0..n], i);
         from = from + n + 1;
         i += 1;
     }
 }
 
 // Line i, counted from 1.
-fn answer(line: &[u8], i: usize) {
+fn answer(rt: &impl Print, line: &[u8], i: usize) {
     let mut file = [0u8; FILE_MOST];
     let sum = sum_of(line, &mut file);
     let Number::Is(n) = sum else {
-        say(b"error");
-        spaced(i as u64);
-        say(b"\n");
+        say(rt, b"error");
+        spaced(rt, i as u64);
+        say(rt, b"\n");
         return;
     };
-    say(part(line, b' ', 0));
-    spaced(turns_of(line));
-    spaced(n);
-    say(b"\n");
+    say(rt, part(line, b' ', 0));
+    spaced(rt, turns_of(line));
+    spaced(rt, n);
+    say(rt, b"\n");
 }
 
 // ---- what a line asks
@@ -233,11 +233,11 @@ fn run_job(kind: Kind, turns: u64, show: Show) -> Number {
 
 // ---- what is printed
 
-fn say(text: &[u8]) {
-    io::write_all(STDOUT_FILENO, text);
+fn say(rt: &impl Print, text: &[u8]) {
+    let _ = rt.write_all(text);
 }
 
-fn spaced(n: u64) {
-    say(b" ");
-    io::print_decimal(STDOUT_FILENO, n);
+fn spaced(rt: &impl Print, n: u64) {
+    say(rt, b" ");
+    let _ = rt.print(n);
 }

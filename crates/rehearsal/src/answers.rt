@@ -41,12 +41,12 @@ pub(crate) fn value_said(t: i64) -> Said {
 }
 
 // The answer, and the end of its line.
-pub(crate) fn tell_answer(said: Said, faults: u64) -> bool {
-    tell(said.form, said.a, said.b, 0, 0) && end(faults)
+pub(crate) fn tell_answer(rt: &impl Print, said: Said, faults: u64) -> bool {
+    tell(rt, said.form, said.a, said.b, 0, 0) && end(rt, faults)
 }
 
-pub(crate) fn tell_refused(told: Told, faults: u64) -> bool {
-    tell(REFUSED, told.number as u64, told.place as u64, 0, 0) && end(faults)
+pub(crate) fn tell_refused(rt: &impl Print, told: Told, faults: u64) -> bool {
+    tell(rt, REFUSED, told.number as u64, told.place as u64, 0, 0) && end(rt, faults)
 }
 
 // The number of a refusal and its place; zeros for none.
@@ -98,10 +98,10 @@ pub(crate) fn unlike(a: Told, b: Told) -> u64 {
 }
 
 // A word for each fault, and the end of the line.
-pub(crate) fn end(faults: u64) -> bool {
+pub(crate) fn end(rt: &impl Print, faults: u64) -> bool {
     let mut out = [0u8; 64];
     let at = put_faults(&mut out, faults);
-    said(&out, at)
+    said(rt, &out, at)
 }
 
 fn put_faults(out: &mut [u8], faults: u64) -> usize {
@@ -141,7 +141,7 @@ pub(crate) fn zeros_from(n: usize, lists: &[u64]) -> bool {
 // ---- a show, as a script gives it, and bytes
 
 // After a form.
-pub(crate) fn tell_show(form: usize, show: Show) -> bool {
+pub(crate) fn tell_show(rt: &impl Print, form: usize, show: Show) -> bool {
     let mut out = [0u8; 2048];
     let numbers = numbers_of(show);
     let at = put_said(&mut out, 0, form, 0, 0, 0, 0);
@@ -152,13 +152,13 @@ pub(crate) fn tell_show(form: usize, show: Show) -> bool {
           #,#,#,#;#,#,#,#;#,#,#,#;#,#,#,#;#,#,#,#;#,#,#,#;#,#,#,#;#,#,#,#;#,#,#,#;#,#,#,#;#,#,#,#;#,#,#,#",
         &numbers,
     );
-    said(&out, at)
+    said(rt, &out, at)
 }
 
 // In hex, a dash for none, after a form: as many as a buffer that a script lends.
-pub(crate) fn tell_bytes(form: usize, a: u64, b: u64, bytes: &[u8]) -> bool {
+pub(crate) fn tell_bytes(rt: &impl Print, form: usize, a: u64, b: u64, bytes: &[u8]) -> bool {
     let mut out = [0u8; 2 * BYTES + 128];
     let at = put_said(&mut out, 0, form, a, b, 0, 0);
     let at = put_hex(&mut out, at, bytes);
-    said(&out, at)
+    said(rt, &out, at)
 }

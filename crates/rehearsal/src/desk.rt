@@ -77,7 +77,7 @@ enum Judged {
 }
 
 // `idle`: there is no line.
-pub(crate) fn line(bytes: &[u8], idle: bool, desk: Desk) -> Desk {
+pub(crate) fn line(rt: &impl Print, bytes: &[u8], idle: bool, desk: Desk) -> Desk {
     if idle {
         return desk;
     }
@@ -90,10 +90,10 @@ pub(crate) fn line(bytes: &[u8], idle: bool, desk: Desk) -> Desk {
         Judged::Over => next,
         Judged::Malformed => {
             next.has = nothing(false, true);
-            next.lost = !tell(ERROR, next.lines, 0, 0, 0);
+            next.lost = !tell(rt, ERROR, next.lines, 0, 0, 0);
             next
         }
-        Judged::Good => taken(bytes, asked, next),
+        Judged::Good => taken(rt, bytes, asked, next),
     }
 }
 
@@ -145,7 +145,7 @@ fn has_after(word: Word, has: Has, opened: bool) -> Has {
     next
 }
 
-fn taken(bytes: &[u8], asked: Asked, desk: Desk) -> Desk {
+fn taken(rt: &impl Print, bytes: &[u8], asked: Asked, desk: Desk) -> Desk {
     let word = asked.word;
     let shown = show_after(word, part(bytes, b' ', 1), desk.show, desk.refused);
     let called = run_after(asked, desk.show, desk.refused, desk.run, desk.kept);
@@ -154,7 +154,7 @@ fn taken(bytes: &[u8], asked: Asked, desk: Desk) -> Desk {
     let run = called.run;
     Desk {
         lines: desk.lines,
-        lost: !answered(bytes, asked, called, show, refused),
+        lost: !answered(rt, bytes, asked, called, show, refused),
         has: has_after(word, desk.has, called.opened),
         refused,
         show,
@@ -171,9 +171,16 @@ fn kept_after(word: Word, run: Run, kept: Run) -> Run {
 }
 
 // The line again; after it what a call answers, and the record; a question's answer; any other line just ends.
-fn answered(bytes: &[u8], asked: Asked, called: Called, show: Show, refused: Told) -> bool {
+fn answered(
+    rt: &impl Print,
+    bytes: &[u8],
+    asked: Asked,
+    called: Called,
+    show: Show,
+    refused: Told,
+) -> bool {
     let word = asked.word;
-    if !say(bytes) {
+    if !say(rt, bytes) {
         return false;
     }
     match word {
@@ -184,11 +191,11 @@ fn answered(bytes: &[u8], asked: Asked, called: Called, show: Show, refused: Tol
         | Word::Workahead
         | Word::Slack
         | Word::Start
-        | Word::Open => tell_answer(called.answer, 0) && record(called.run, called.opened),
+        | Word::Open => tell_answer(rt, called.answer, 0) && record(rt, called.run, called.opened),
         Word::Decide | Word::Why | Word::Load | Word::Worst | Word::Try | Word::Write => about_show(
-            bytes, asked, show, refused,
+            rt, bytes, asked, show, refused,
         ),
-        Word::File | Word::Report | Word::Explain | Word::Player => about_given(bytes, asked),
-        _ => end(0),
+        Word::File | Word::Report | Word::Explain | Word::Player => about_given(rt, bytes, asked),
+        _ => end(rt, 0),
     }
 }

@@ -43,25 +43,25 @@ fn before(i: usize) -> u8 {
 
 // ---- a file
 
-pub(crate) fn tell_file(hex: &[u8]) -> bool {
+pub(crate) fn tell_file(rt: &impl Print, hex: &[u8]) -> bool {
     let mut file = [0u8; BYTES];
     let n = bytes_of(hex, &mut file);
-    tell_read(&file[0..n])
+    tell_read(rt, &file[0..n])
 }
 
-fn tell_read(file: &[u8]) -> bool {
+fn tell_read(rt: &impl Print, file: &[u8]) -> bool {
     let got = showfile::read(file);
     let check = got.check;
     let show = got.show;
     let told = told_of(check);
     if told.number != 0 {
-        return tell_refused(told, unread_faults(told, file));
+        return tell_refused(rt, told, unread_faults(told, file));
     }
-    tell_show(CONTENTS, show) && tell_rest(file)
+    tell_show(rt, CONTENTS, show) && tell_rest(rt, file)
 }
 
-fn tell_rest(file: &[u8]) -> bool {
-    tell_bytes(SPACE, 0, 0, showfile::note(file)) && tell_copies(file)
+fn tell_rest(rt: &impl Print, file: &[u8]) -> bool {
+    tell_bytes(rt, SPACE, 0, 0, showfile::note(file)) && tell_copies(rt, file)
 }
 
 // A refused file has no note and is not copied either.
@@ -72,18 +72,19 @@ fn unread_faults(told: Told, file: &[u8]) -> u64 {
 }
 
 // The file written again into a buffer of its length, and into one that is a byte shorter: this must be refused, and change nothing.
-fn tell_copies(file: &[u8]) -> bool {
+fn tell_copies(rt: &impl Print, file: &[u8]) -> bool {
     let whole = copied(file, file.len());
     let short = copied(file, less(file.len()));
     let told = short.told;
     let form = either(whole.same, COPIED, DIFFERENT);
     tell(
+        rt,
         form,
         whole.len as u64,
         told.number as u64,
         told.place as u64,
         0,
-    ) && end(unless(short.kept, CHANGED))
+    ) && end(rt, unless(short.kept, CHANGED))
 }
 
 fn less(n: usize) -> usize {
@@ -123,37 +124,37 @@ fn copied_in(file: &[u8], room: usize, buffer: &mut [u8]) -> Copying
 
 // ---- a show in memory
 
-pub(crate) fn tell_written(show: Show, hex: &[u8], room: usize) -> bool {
+pub(crate) fn tell_written(rt: &impl Print, show: Show, hex: &[u8], room: usize) -> bool {
     let mut note = [0u8; BYTES];
     let mut buffer = [0u8; BYTES];
     let n = bytes_of(hex, &mut note);
     let room = at_most(room, BYTES);
-    tell_noted(show, &note[0..n], &mut buffer[0..room])
+    tell_noted(rt, show, &note[0..n], &mut buffer[0..room])
 }
 
-fn tell_noted(show: Show, note: &[u8], buffer: &mut [u8]) -> bool {
+fn tell_noted(rt: &impl Print, show: Show, note: &[u8], buffer: &mut [u8]) -> bool {
     fill(buffer);
     let wrote = write(show, note, buffer);
     let check = wrote.check;
     let told = told_of(check);
     if told.number != 0 {
-        return tell_unwritten(told, show, note, buffer);
+        return tell_unwritten(rt, told, show, note, buffer);
     }
-    tell_bytes(WROTE, wrote.len as u64, 0, buffer) && tell_again(show, note, buffer)
+    tell_bytes(rt, WROTE, wrote.len as u64, 0, buffer) && tell_again(rt, show, note, buffer)
 }
 
 // A refused show is not written on the way to being read again either; the buffer is that after both calls.
-fn tell_unwritten(told: Told, show: Show, note: &[u8], buffer: &mut [u8]) -> bool {
+fn tell_unwritten(rt: &impl Print, told: Told, show: Show, note: &[u8], buffer: &mut [u8]) -> bool {
     let got = reread(show, note, buffer);
     let second = got.check;
     let faults = unlike(told, told_of(second));
-    tell_bytes(UNWRITTEN, told.number as u64, told.place as u64, buffer) && end(faults)
+    tell_bytes(rt, UNWRITTEN, told.number as u64, told.place as u64, buffer) && end(rt, faults)
 }
 
 // The show written into a fresh buffer and read again; zeros where that is refused.
-fn tell_again(show: Show, note: &[u8], buffer: &mut [u8]) -> bool {
+fn tell_again(rt: &impl Print, show: Show, note: &[u8], buffer: &mut [u8]) -> bool {
     fill(buffer);
     let got = reread(show, note, buffer);
     let again = got.show;
-    tell_show(REREAD, again) && tell(LENGTH, got.note as u64, 0, 0, 0)
+    tell_show(rt, REREAD, again) && tell(rt, LENGTH, got.note as u64, 0, 0, 0)
 }

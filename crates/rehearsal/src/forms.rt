@@ -93,10 +93,10 @@ pub(crate) fn put_said(
     put_form(out, at, part(forms, b'|', form), &[a, b, c, d])
 }
 
-pub(crate) fn tell(form: usize, a: u64, b: u64, c: u64, d: u64) -> bool {
+pub(crate) fn tell(rt: &impl Print, form: usize, a: u64, b: u64, c: u64, d: u64) -> bool {
     let mut out = [0u8; 128];
     let at = put_said(&mut out, 0, form, a, b, c, d);
-    said(&out, at)
+    said(rt, &out, at)
 }
 
 pub(crate) fn either(first: bool, form: usize, other: usize) -> usize {

@@ -23,6 +23,10 @@ use crate::desk::{Desk, line};
 use crate::output::complain;
 use input::read_at;
 use parse::find;
+use std::io::Read;
+
+// The longest line and its newline.
+const ROOM: usize = 65_536;
 
 // Where the next line stands in the room, `from` to `to`, and the bytes that are held after it, `next` to `end`. `idle`: there is none to
 // answer. `rest`: more of a line that fills the room is still to come. `more`: more may come.
@@ -37,29 +41,29 @@ struct Turn {
     more: bool,
 }
 
-fn main() {
-    let mut room = io::large_buffer();
-    rehearse(&mut room);
+fn main(rt: HostRuntime) {
+    let mut room = [0u8; ROOM];
+    rehearse(&rt, &mut rt.stdin(), &mut room);
 }
 
 // A proved loop has to end, and nothing says that a script does: so the turns are counted down, from a number that no script uses up.
-fn rehearse(room: &mut [u8]) {
+fn rehearse<R: Read>(rt: &(impl Print + Eprint), input: &mut R, room: &mut [u8]) {
     let mut turns = u64::MAX;
     let mut desk = Desk::new();
     let mut turn = read(0, false);
     while turns > 0 {
-        turn = next_line(room, turn.next, turn.end, turn.rest);
+        turn = next_line(rt, input, room, turn.next, turn.end, turn.rest);
         let from = turn.from;
         let to = turn.to;
-        desk = line(&room[from..to], turn.idle, desk);
+        desk = line(rt, &room[from..to], turn.idle, desk);
         turns = turns_left(turns, turn.more, desk.lost);
     }
-    tell_lost(desk.lost);
+    tell_lost(rt, desk.lost);
 }
 
-fn tell_lost(lost: bool) {
+fn tell_lost(rt: &impl Eprint, lost: bool) {
     if lost {
-        complain(b"rehearsal: the answers could not be written\n");
+        complain(rt, "rehearsal: the answers could not be written\n");
     }
 }
 
@@ -74,7 +78,14 @@ fn turns_left(turns: u64, more: bool, lost: bool) -> u64
 }
 
 // The next line that is whole; where there is none, what is held goes to the start of the room, and more is read.
-fn next_line(room: &mut [u8], from: usize, end: usize, rest: bool) -> Turn
+fn next_line<R: Read>(
+    rt: &impl Eprint,
+    input: &mut R,
+    room: &mut [u8],
+    from: usize,
+    end: usize,
+    rest: bool,
+) -> Turn
     requires { (from ≤ end) × (end ≤ length room.old) }
     ensures { ((result.from ≤ result.to) × (result.to ≤ length room.new)) × ((result.next ≤ result.end) × (result.end ≤ length room.new)) }
 {
@@ -92,20 +103,26 @@ fn next_line(room: &mut [u8], from: usize, end: usize, rest: bool) -> Turn
     }
     let left = end - from;
     to_front(room, from, left);
-    read_on(room, left, rest)
+    read_on(rt, input, room, left, rest)
 }
 
 // Reads once, after the bytes that are held. A line that fills the room is answered at once, and what still comes of it is passed over.
-fn read_on(room: &mut [u8], held: usize, rest: bool) -> Turn
+fn read_on<R: Read>(
+    rt: &impl Eprint,
+    input: &mut R,
+    room: &mut [u8],
+    held: usize,
+    rest: bool,
+) -> Turn
     requires { held ≤ length room.old }
     ensures { ((result.from ≤ result.to) × (result.to ≤ length room.new)) × ((result.next ≤ result.end) × (result.end ≤ length room.new)) }
 {
     if held == room.len() {
         return last(held, rest, true);
     }
-    let came = read_at(room, held);
+    let came = read_at(input, room, held);
     if came.failed {
-        complain(b"rehearsal: standard input could not be read\n");
+        complain(rt, "rehearsal: standard input could not be read\n");
     }
     if came.len == 0 {
         return last(held, rest, false);

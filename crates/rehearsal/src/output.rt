@@ -1,18 +1,17 @@
 // What is written. A call answers false where something could not be written.
-use libc::{STDERR_FILENO, STDOUT_FILENO};
 
-pub(crate) fn say(bytes: &[u8]) -> bool {
-    io::write_all(STDOUT_FILENO, bytes)
+pub(crate) fn say(rt: &impl Print, bytes: &[u8]) -> bool {
+    rt.write_all(bytes).is_ok()
 }
 
 // The first n bytes, those that there are.
-pub(crate) fn said(out: &[u8], n: usize) -> bool {
+pub(crate) fn said(rt: &impl Print, out: &[u8], n: usize) -> bool {
     if out.len() < n {
-        return say(out);
+        return say(rt, out);
     }
-    say(&out[0..n])
+    say(rt, &out[0..n])
 }
 
-pub(crate) fn complain(line: &[u8]) {
-    io::write_all(STDERR_FILENO, line);
+pub(crate) fn complain(rt: &impl Eprint, line: &str) {
+    let _ = rt.eprint(line);
 }

@@ -22,14 +22,20 @@ use verdict::Verdict;
 // ---- about the show in memory
 
 // `refused`: what reading the file said, number 0 where it was read.
-pub(crate) fn about_show(line: &[u8], asked: Asked, show: Show, refused: Told) -> bool {
+pub(crate) fn about_show(
+    rt: &impl Print,
+    line: &[u8],
+    asked: Asked,
+    show: Show,
+    refused: Told,
+) -> bool {
     let word = asked.word;
     if refused.number != 0 {
-        return tell_refused(refused, 0);
+        return tell_refused(rt, refused, 0);
     }
     match word {
-        Word::Why | Word::Load | Word::Worst => tell_answer(short_answer(asked, show), 0),
-        _ => long_answer(asked, part(line, b' ', 1), show),
+        Word::Why | Word::Load | Word::Worst => tell_answer(rt, short_answer(asked, show), 0),
+        _ => long_answer(rt, asked, part(line, b' ', 1), show),
     }
 }
 
@@ -69,36 +75,36 @@ fn worst_of(worst: Worst) -> Said {
 // ---- long answers
 
 // With no show in memory.
-pub(crate) fn about_given(line: &[u8], asked: Asked) -> bool {
+pub(crate) fn about_given(rt: &impl Print, line: &[u8], asked: Asked) -> bool {
     let word = asked.word;
     let operand = part(line, b' ', 1);
     match word {
-        Word::File => tell_file(operand),
-        Word::Report => tell_text(Call::Report, operand),
-        Word::Explain => tell_text(Call::Explain, operand),
-        _ => tell_take(taking_of(line)),
+        Word::File => tell_file(rt, operand),
+        Word::Report => tell_text(rt, Call::Report, operand),
+        Word::Explain => tell_text(rt, Call::Explain, operand),
+        _ => tell_take(rt, taking_of(line)),
     }
 }
 
-fn long_answer(asked: Asked, operand: &[u8], show: Show) -> bool {
+fn long_answer(rt: &impl Print, asked: Asked, operand: &[u8], show: Show) -> bool {
     let word = asked.word;
     match word {
-        Word::Decide => tell_table(show.playing, decided(show)),
-        Word::Try => tell_table(show.playing, tried(show, counts_of(operand))),
-        _ => tell_written(show, operand, asked.value as usize),
+        Word::Decide => tell_table(rt, show.playing, decided(show)),
+        Word::Try => tell_table(rt, show.playing, tried(show, counts_of(operand))),
+        _ => tell_written(rt, show, operand, asked.value as usize),
     }
 }
 
-fn tell_take(given: Taking) -> bool {
+fn tell_take(rt: &impl Print, given: Taking) -> bool {
     let state = given.state;
     let session = given.session;
     let drawn = player::take_lent(state, session, given.started, given.bytes);
     let check = drawn.check;
     let after = drawn.state;
     let said = answer_of(told_of(check));
-    tell(said.form, said.a, said.b, 0, 0)
-        && tell(STATE, after.put, after.taken, after.clock, 0)
-        && end(0)
+    tell(rt, said.form, said.a, said.b, 0, 0)
+        && tell(rt, STATE, after.put, after.taken, after.clock, 0)
+        && end(rt, 0)
 }
 
 // ---- a decision or a trial
@@ -162,23 +168,31 @@ fn form_on(answer: trial::Answer) -> usize {
 }
 
 // Refused, all else is zero.
-fn tell_table(used: usize, table: Table) -> bool {
+fn tell_table(rt: &impl Print, used: usize, table: Table) -> bool {
     let told = table.told;
     let lists = table.lists;
     if told.number != 0 {
         return tell_refused(
+            rt,
             told,
             unless(table.round == 0, BESIDE) | unless(zeros_from(0, &lists), BESIDE),
         );
     }
-    tell_lists(table.form, table.round, table.first, used, &lists)
+    tell_lists(rt, table.form, table.round, table.first, used, &lists)
 }
 
-fn tell_lists(form: usize, round: u64, first: usize, used: usize, lists: &[u64]) -> bool {
+fn tell_lists(
+    rt: &impl Print,
+    form: usize,
+    round: u64,
+    first: usize,
+    used: usize,
+    lists: &[u64],
+) -> bool {
     let mut out = [0u8; 1024];
     let at = put_said(&mut out, 0, form, round, 0, 0, 0);
     let at = put_lists(&mut out, at, SPACE, first, 2, used, lists);
-    said(&out, at) && end(unless(zeros_from(used, lists), BESIDE))
+    said(rt, &out, at) && end(rt, unless(zeros_from(used, lists), BESIDE))
 }
 
 fn lists_of(counts: [u32; 16], times: [u64; 16]) -> [u64; 32] {

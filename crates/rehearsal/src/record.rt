@@ -13,7 +13,7 @@ const PLACES: usize = 16;
 const LISTED: usize = 5 * PLACES;
 
 // Nothing, where there is no record.
-pub(crate) fn record(run: Run, opened: bool) -> bool {
+pub(crate) fn record(rt: &impl Print, run: Run, opened: bool) -> bool {
     if !opened {
         return true;
     }
@@ -23,7 +23,7 @@ pub(crate) fn record(run: Run, opened: bool) -> bool {
     let at = put_cycle(&mut out, run);
     let at = put_lists(&mut out, at, NAMES, 0, 5, used, &values);
     let at = put_unused(&mut out, at, used, &values);
-    said(&out, at)
+    said(rt, &out, at)
 }
 
 fn put_cycle(out: &mut [u8], run: Run) -> usize {

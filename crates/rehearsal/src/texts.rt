@@ -18,21 +18,21 @@ pub(crate) enum Call {
     Explain,
 }
 
-pub(crate) fn tell_text(call: Call, hex: &[u8]) -> bool {
+pub(crate) fn tell_text(rt: &impl Print, call: Call, hex: &[u8]) -> bool {
     let mut file = [0u8; BYTES];
     let n = bytes_of(hex, &mut file);
-    tell_asked(call, &file[0..n])
+    tell_asked(rt, call, &file[0..n])
 }
 
 // Asked three times: with a long buffer, with one that is just long enough, and with one that is a byte too short, which is 16.
-fn tell_asked(call: Call, file: &[u8]) -> bool {
+fn tell_asked(rt: &impl Print, call: Call, file: &[u8]) -> bool {
     let mut buffer = [0u8; LENT];
     let mut other = [0u8; LENT];
     let long = asked_in(call, file, LENT, &mut buffer);
     let just = asked_in(call, file, least(call), &mut other);
     let n = long.len;
     let faults = long_faults(long, just.len, same(&buffer, &other)) | short_faults(call, file);
-    tell_lines(&buffer[0..n]) && end(faults)
+    tell_lines(rt, &buffer[0..n]) && end(rt, faults)
 }
 
 fn long_faults(long: Text, just: usize, alike: bool) -> u64 {
@@ -93,12 +93,12 @@ fn asked_in(call: Call, file: &[u8], room: usize, buffer: &mut [u8]) -> Text
     }
 }
 
-fn tell_lines(text: &[u8]) -> bool {
+fn tell_lines(rt: &impl Print, text: &[u8]) -> bool {
     let n = parts(text, b'\n');
     let mut good = true;
     let mut k = 0;
     while k < n && good {
-        good = tell(either(k == 0, ARROW, BREAK), 0, 0, 0, 0) && say(part(text, b'\n', k));
+        good = tell(rt, either(k == 0, ARROW, BREAK), 0, 0, 0, 0) && say(rt, part(text, b'\n', k));
         k += 1;
     }
     good
