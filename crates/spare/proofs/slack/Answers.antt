@@ -1,0 +1,17 @@
+-- `slack` answers what the standing of the run has to spare. Assumes nothing.
+use mathlib.Core.Path.{ap, ◌∙◌}
+use Rattle.run.specs.Sound.{SoundRun}
+use Rattle.standing.specs.Answers.{slack_for}
+use Rattle.standing.proofs.Calls.{stood_sound, stood_damaged, stood_standing}
+use Rattle.spare.proofs.Calls.{slack_damaged, slack_stood}
+use borrow.Author.Rules.{rules}
+use Rattle.spare.proofs.slack.Goals as goal
+
+pub returns-in_default : goal.returns-in_default
+returns-in_default c =
+    slack_damaged _ (stood_damaged _ _ c.stand-stood.ensures c.in_default.is)
+
+pub returns : goal.returns
+returns c =
+    let sound : SoundRun c.args.run = stood_sound _ _ c.stand-stood.ensures c.in-Within.is in
+    slack_stood _ sound _ (c.slack_in.ensures ∙ ap slack_for (stood_standing _ sound _ c.stand-stood.ensures))
