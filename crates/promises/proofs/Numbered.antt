@@ -78,18 +78,18 @@ known : Known
 known =
     record {
       check = known_by check_outcome (λ l. check.Within) check.Refused
-          (λ a. elim a [ check.Within ↦ granting refl refl | check.Refused w ↦ refusing w refl refl ]);
+          (λ a. elim a as (λ k. Form check_outcome (λ l. check.Within) check.Refused k) [ check.Within ↦ granting refl refl | check.Refused w ↦ refusing w refl refl ]);
       worst = known_by worst_outcome (λ l. worst.Takes (value_at 0 l)) worst.Refused
-          (λ a. elim a [ worst.Takes t ↦ granting refl refl | worst.Refused w ↦ refusing w refl refl ]);
+          (λ a. elim a as (λ k. Form worst_outcome (λ l. worst.Takes (value_at 0 l)) worst.Refused k) [ worst.Takes t ↦ granting refl refl | worst.Refused w ↦ refusing w refl refl ]);
       asked = known_by asked_outcome (λ l. asked.Count (value_at 0 l)) asked.Refused
-          (λ a. elim a [ asked.Count m ↦ granting refl refl | asked.Refused w ↦ refusing w refl refl ]);
+          (λ a. elim a as (λ k. Form asked_outcome (λ l. asked.Count (value_at 0 l)) asked.Refused k) [ asked.Count m ↦ granting refl refl | asked.Refused w ↦ refusing w refl refl ]);
       verdict = known_by verdict_outcome (λ l. verdict.Accepted) verdict.Refused
-          (λ a. elim a [ verdict.Accepted ↦ granting refl refl | verdict.Refused w ↦ refusing w refl refl ]);
+          (λ a. elim a as (λ k. Form verdict_outcome (λ l. verdict.Accepted) verdict.Refused k) [ verdict.Accepted ↦ granting refl refl | verdict.Refused w ↦ refusing w refl refl ]);
       answer = known_by answer_outcome (λ l. get_or (answer.Fails ∷ []) (value_at 0 l) answer.Holds) answer.Refused
-          (λ a. elim a [ answer.Holds ↦ granting refl refl | answer.Fails ↦ granting refl refl | answer.Refused w ↦ refusing w refl refl ]);
+          (λ a. elim a as (λ k. Form answer_outcome (λ l. get_or (answer.Fails ∷ []) (value_at 0 l) answer.Holds) answer.Refused k) [ answer.Holds ↦ granting refl refl | answer.Fails ↦ granting refl refl | answer.Refused w ↦ refusing w refl refl ]);
       reason = known_by reason_outcome reason_from reason.Refused
           (λ a.
-          elim a [
+          elim a as (λ k. Form reason_outcome reason_from reason.Refused k) [
             | reason.None ↦ granting refl refl
             | reason.Overload ↦ granting refl refl
             | reason.Beyond ↦ granting refl refl
@@ -97,13 +97,13 @@ known =
             | reason.Refused w ↦ refusing w refl refl
           ]);
       loaded = known_by loaded_outcome (λ l. loaded.Tenths (value_at 0 l)) loaded.Refused
-          (λ a. elim a [ loaded.Tenths n ↦ granting refl refl | loaded.Refused w ↦ refusing w refl refl ]);
+          (λ a. elim a as (λ k. Form loaded_outcome (λ l. loaded.Tenths (value_at 0 l)) loaded.Refused k) [ loaded.Tenths n ↦ granting refl refl | loaded.Refused w ↦ refusing w refl refl ]);
       test = known_by test_outcome (λ l. test.Sound) (λ w. test.Damaged)
-          (λ a. elim a [ test.Sound ↦ granting refl refl | test.Damaged ↦ refusing Damaged refl refl ]);
+          (λ a. elim a as (λ k. Form test_outcome (λ l. test.Sound) (λ w. test.Damaged) k) [ test.Sound ↦ granting refl refl | test.Damaged ↦ refusing Damaged refl refl ]);
       choice = known_by choice_outcome chosen_from choice.Refused
-          (λ a. elim a [ choice.Idle ↦ granting refl refl | choice.Read i ↦ granting refl refl | choice.Refused w ↦ refusing w refl refl ]);
+          (λ a. elim a as (λ k. Form choice_outcome chosen_from choice.Refused k) [ choice.Idle ↦ granting refl refl | choice.Read i ↦ granting refl refl | choice.Refused w ↦ refusing w refl refl ]);
       spare = known_by spare_outcome (λ l. spare.Time (get_or l 0 (pos 0))) spare.Refused
-          (λ a. elim a [ spare.Time z ↦ granting refl refl | spare.Refused w ↦ refusing w refl refl ]);
+          (λ a. elim a as (λ k. Form spare_outcome (λ l. spare.Time (get_or l 0 (pos 0))) spare.Refused k) [ spare.Time z ↦ granting refl refl | spare.Refused w ↦ refusing w refl refl ]);
     }
 
 pub numbered : Numbered
