@@ -21,7 +21,7 @@ use native.Mathlib.Nat.{
 use Rattle.show.specs.declared.Show.{Show}
 use Rattle.show.specs.Limits.{ShowWithin, block_most, rate_most, session_at}
 use Rattle.cost.specs.declared.Cost.{Cost}
-use Rattle.cost.specs.Bound.{weight, each_most, cross_most}
+use Rattle.cost.specs.Bound.{each_most, cross_most}
 use Rattle.cost.specs.Costs.{cost_of}
 use Rattle.cost.proofs.Costs.{cost_limited}
 use Rattle.theory.specs.Sum.{sum_to}

@@ -1,7 +1,6 @@
 -- `need` answers the least count ahead of a rate, or the first refusal of 5 and 7. Assumes nothing.
 use mathlib.Core.Path.{sym, ap, ◌∙◌}
 use native.Mathlib.Omega.{arith}
-use borrow.Author.Rules.{rules}
 use Rattle.show.proofs.Checks.{tells_yes, tells_no}
 use Rattle.count.specs.Answers.{BlockWithin, RateWithin}
 use Rattle.count.specs.declared.Asked.TheVariants.{Count}

@@ -1,11 +1,7 @@
 -- `find` goes on to the first mark. The invariant: the mark that is sought stands first from byte i on. The measure: the bytes that are left.
 -- Assumes nothing.
-use Prim.Native.Nat.{◌+◌, ◌≤◌, ◌-◌}
-use mathlib.Core.Path.{◌≡◌}
 use native.Mathlib.Omega.{arith}
-use lib.ListN.{length, drop}
 use borrow.Author.Rules.{rules}
-use Rattle.parse.specs.Parts.{find_of}
 use Rattle.parse.proofs.Turns.{found_here, found_later, found_nowhere}
 use Rattle.parse.proofs.find.Goals as goal
 

@@ -2,11 +2,8 @@
 -- Assumes nothing.
 use Prim.Native.Nat.{◌+◌, ◌≤◌, ◌-◌}
 use mathlib.Core.Path.{◌≡◌}
-use native.Mathlib.Omega.{arith}
 use lib.ListN.{length, drop}
-use borrow.Author.Rules.{rules}
 use Rattle.parse.specs.Parts.{find_of}
-use Rattle.parse.proofs.Turns.{found_here, found_later, found_nowhere}
 use Rattle.parse.proofs.find.Given as goal
 
 abbrev pub invariant-loop-i : goal.invariant-loop-i

@@ -2,13 +2,9 @@
 -- The measure: the marks that are left.
 -- Assumes nothing.
 use Prim.Native.Nat.{◌≤◌, ◌-◌}
-use mathlib.Core.Path.{◌≡◌, sym, ◌∙◌}
-use native.Mathlib.Omega.{arith}
+use mathlib.Core.Path.{◌≡◌}
 use lib.ListN.{length, drop}
-use borrow.Author.Rules.{rules}
-use Rattle.parse.specs.Parts.{find_of, part_of}
-use Rattle.parse.proofs.Turns.{next_within, part_first, part_next}
-use Rattle.parse.proofs.PartLaws.{part_none}
+use Rattle.parse.specs.Parts.{part_of}
 use Rattle.parse.proofs.part.Given as goal
 
 abbrev pub invariant-loop-i : goal.invariant-loop-i

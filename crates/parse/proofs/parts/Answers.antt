@@ -1,11 +1,6 @@
 -- `parts` counts the marks. The invariant: n and the parts from byte i on are one more than all. The measure: the bytes that are left.
 -- Assumes nothing.
-use Prim.Native.Nat.{◌+◌, ◌≤◌, ◌-◌}
-use mathlib.Core.Path.{◌≡◌}
 use native.Mathlib.Omega.{arith}
-use lib.ListN.{length, drop}
-use borrow.Author.Rules.{rules}
-use Rattle.parse.specs.Parts.{parts_of}
 use Rattle.parse.proofs.Turns.{part_more, part_same, part_last}
 use Rattle.parse.proofs.parts.Goals as goal
 use Rattle.parse.proofs.parts.Goals.{then-text-i, else-text-i}
@@ -13,8 +8,8 @@ use Rattle.parse.proofs.parts.Goals.{then-text-i, else-text-i}
 pub loop-i-preserved : goal.loop-i-preserved
 loop-i-preserved c =
     elim c.if-text-i.branch [
-      then-text-i w ↦ omega (arith, part_more c.args.mark c.args.text.now c.loop-i.i c.loop-i-test.true w.if-text-i.true)
-    | else-text-i w ↦ omega (arith, part_same c.args.mark c.args.text.now c.loop-i.i c.loop-i-test.true w.if-text-i.false)
+      | then-text-i w ↦ omega (arith, part_more c.args.mark c.args.text.now c.loop-i.i c.loop-i-test.true w.if-text-i.true)
+      | else-text-i w ↦ omega (arith, part_same c.args.mark c.args.text.now c.loop-i.i c.loop-i-test.true w.if-text-i.false)
     ]
 
 pub returns : goal.returns

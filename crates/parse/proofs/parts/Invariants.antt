@@ -2,12 +2,8 @@
 -- Assumes nothing.
 use Prim.Native.Nat.{◌+◌, ◌≤◌, ◌-◌}
 use mathlib.Core.Path.{◌≡◌}
-use mathlib.Core.Logic.{⊎_elim}
-use native.Mathlib.Omega.{arith}
 use lib.ListN.{length, drop}
-use borrow.Author.Rules.{rules}
 use Rattle.parse.specs.Parts.{parts_of}
-use Rattle.parse.proofs.Turns.{part_more, part_same, part_last}
 use Rattle.parse.proofs.parts.Given as goal
 
 abbrev pub invariant-loop-i : goal.invariant-loop-i

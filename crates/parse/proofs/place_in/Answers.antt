@@ -1,12 +1,9 @@
 -- `place_in` looks at one name after the other. The invariant: the word is none of the first k. The measure: the names that are left.
 -- Assumes nothing.
-use Prim.Native.Nat.{ℕ, ◌≤◌, ◌<◌, ◌-◌}
-use mathlib.Core.Path.{◌≡◌, sym, ◌∙◌}
+use mathlib.Core.Path.{sym, ◌∙◌}
 use native.Mathlib.Omega.{arith}
 use borrow.Author.Count.{below_more}
-use borrow.Author.Rules.{rules}
 use Rattle.show.proofs.Checks.{tells_yes, tells_no}
-use Rattle.parse.specs.Parts.{part_of}
 use Rattle.parse.proofs.place_in.Goals as goal
 
 pub loop-k-init : goal.loop-k-init

@@ -1,13 +1,8 @@
 -- `same` compares length and bytes. The invariant: of one length, and the same below i. The measure: the bytes that are left.
 -- Assumes nothing.
 use Prim.Native.Nat.{ℕ, ◌≤◌, ◌<◌, ◌-◌}
-use mathlib.Core.Path.{◌≡◌, ap}
-use mathlib.Core.List.{List}
-use native.Mathlib.Omega.{arith}
+use mathlib.Core.Path.{◌≡◌}
 use lib.ListN.{length, get_or}
-use lib.Seq.{ext_get_or}
-use borrow.Author.Count.{below_more}
-use borrow.Author.Rules.{rules}
 use Rattle.parse.proofs.same.Given as goal
 
 abbrev pub invariant-loop-i : goal.invariant-loop-i

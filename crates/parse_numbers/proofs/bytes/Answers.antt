@@ -1,10 +1,8 @@
 -- `bytes` looks at each pair. The invariant: the text is in hex where what is left of it is. The measure: the pairs that are left.
 -- Assumes nothing.
-use Prim.Native.Nat.{◌-◌}
 use mathlib.Core.Path.{refl}
 use native.Mathlib.Omega.{arith}
-use Rattle.parse_numbers.proofs.Pairs.{SoFar, bytes_none, odd, body, stopped, ended}
-use borrow.Author.Rules.{rules}
+use Rattle.parse_numbers.proofs.Pairs.{bytes_none, odd, body, stopped, ended}
 use Rattle.parse_numbers.proofs.bytes.Goals as goal
 
 pub returns-then-n-eq0 : goal.returns-then-n-eq0

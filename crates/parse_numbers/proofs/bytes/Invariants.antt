@@ -1,10 +1,7 @@
 -- `bytes` looks at each pair. The invariant: the text is in hex where what is left of it is. The measure: the pairs that are left.
 -- Assumes nothing.
 use Prim.Native.Nat.{◌-◌}
-use mathlib.Core.Path.{refl}
-use native.Mathlib.Omega.{arith}
-use Rattle.parse_numbers.proofs.Pairs.{SoFar, bytes_none, odd, body, stopped, ended}
-use borrow.Author.Rules.{rules}
+use Rattle.parse_numbers.proofs.Pairs.{SoFar}
 use Rattle.parse_numbers.proofs.bytes.Given as goal
 
 abbrev pub invariant-loop-i : goal.invariant-loop-i

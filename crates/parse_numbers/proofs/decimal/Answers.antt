@@ -1,12 +1,9 @@
 -- `decimal` reads digit by digit. The invariant: with n for the digits passed, the number is as before. The measure: the bytes that are left.
 -- Assumes nothing.
-use Prim.Native.Nat.{◌-◌}
 use mathlib.Core.Path.{refl}
 use native.Mathlib.Omega.{arith}
 use lib.Dec.{lit<}
-use lib.ListN.{length}
-use borrow.Author.Rules.{rules}
-use Rattle.parse_numbers.proofs.Values.{SoFar, number_none, body, stopped, ended}
+use Rattle.parse_numbers.proofs.Values.{number_none, body, stopped, ended}
 use Rattle.parse_numbers.proofs.decimal.Goals as goal
 
 pub returns-then-text-eq0 : goal.returns-then-text-eq0

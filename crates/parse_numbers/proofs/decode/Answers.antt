@@ -1,13 +1,12 @@
 -- `decode` fills from the front. The invariant: the first i bytes stand there, and the rest is as it was. The measure: the bytes that are left.
 -- Assumes nothing.
-use Prim.Native.Nat.{ℕ, ◌-◌, ◌≤◌}
+use Prim.Native.Nat.{ℕ}
 use mathlib.Core.Path.{◌≡◌, refl, ap, ◌∙◌}
 use mathlib.Core.List.{List, ◌++◌}
 use native.Mathlib.Omega.{arith}
-use lib.ListN.{length, take, drop, set, length-set}
+use lib.ListN.{take, drop, set, length-set}
 use Rattle.parse_numbers.specs.Bytes.{bytes_of, list_of}
 use Rattle.parse_numbers.proofs.Puts.{listed_within, byte_at, put_more}
-use borrow.Author.Rules.{rules}
 use Rattle.parse_numbers.proofs.decode.Goals as goal
 
 pub loop-i-init : goal.loop-i-init

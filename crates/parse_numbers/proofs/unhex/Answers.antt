@@ -2,7 +2,6 @@
 use mathlib.Core.Path.{sym, ◌∙◌}
 use native.Mathlib.Omega.{arith}
 use Rattle.parse_numbers.proofs.Puts.{put_none, put_some, put_all, count_is}
-use borrow.Author.Rules.{rules}
 use Rattle.parse_numbers.proofs.unhex.Goals as goal
 
 pub returns-in_default : goal.returns-in_default

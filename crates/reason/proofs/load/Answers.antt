@@ -8,7 +8,6 @@ use Rattle.show.proofs.Shows.{check_within}
 use Rattle.reason.specs.declared.Loaded.TheVariants.{Tenths}
 use Rattle.reason.proofs.Loads.{tenths_parts}
 use Rattle.reason.proofs.Answers.{load_refused, load_told}
-use borrow.Author.Rules.{rules}
 use Rattle.reason.proofs.load.Goals as goal
 
 pub returns-in-Refused : goal.returns-in-Refused

@@ -1,8 +1,6 @@
 -- `lowest_short` looks for a count that does not fit. Invariant: those of the first i do; what falls: playing - i. Assumes nothing.
-use Prim.Native.Nat.{◌-◌}
 use native.Mathlib.Omega.{arith}
-use Rattle.reason.proofs.Reasons.{FitTo, few, fit_begun, fit_more, fit_broken, fit_ended}
-use borrow.Author.Rules.{rules}
+use Rattle.reason.proofs.Reasons.{few, fit_begun, fit_more, fit_broken, fit_ended}
 use Rattle.reason.proofs.lowest_short.Goals as goal
 
 pub loop-i-init : goal.loop-i-init

@@ -5,7 +5,6 @@ use Rattle.show.specs.Limits.{ShowWithin}
 use Rattle.show.proofs.Shows.{check_within}
 use Rattle.reason.specs.Answers.{outside}
 use Rattle.reason.proofs.Reasons.{overloads, beyond_them, wide_counts}
-use borrow.Author.Rules.{rules}
 use Rattle.reason.proofs.why.Goals as goal
 
 pub returns-in-Refused : goal.returns-in-Refused

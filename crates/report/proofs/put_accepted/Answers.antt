@@ -12,7 +12,6 @@ use Rattle.text.specs.Lines.{two_line}
 use Rattle.report.specs.Text.{session_lines}
 use Rattle.text.specs.Puts.{FitsAt, Put}
 use Rattle.text.proofs.Puts.{answer_as, room_first, room_then, put_then}
-use borrow.Author.Rules.{rules}
 use Rattle.report.proofs.put_accepted.Goals as goal
 
 abbrev first : Show → Decision → List ℕ

@@ -1,6 +1,5 @@
 -- Four numbers, one after the other. Assumes nothing.
 use mathlib.Core.List.{◌++◌}
-use borrow.Author.Rules.{rules}
 use Rattle.text.specs.Lines.{spaced, ended}
 use Rattle.text.proofs.Puts.{room_put, answer_then}
 use Rattle.report.proofs.put_four.Goals as goal

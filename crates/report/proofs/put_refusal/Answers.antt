@@ -2,7 +2,6 @@
 use native.Mathlib.Omega.{arith}
 use Rattle.text.proofs.Puts.{answer_as}
 use Rattle.text.proofs.Lines.{refusal_made, refused_few}
-use borrow.Author.Rules.{rules}
 use Rattle.report.proofs.put_refusal.Goals as goal
 
 pub returns : goal.returns

@@ -1,11 +1,10 @@
 -- A line a turn: what was put so far are the lines of the sessions before. The measure is how many are left. Assumes nothing.
 use mathlib.Core.Path.{sym}
-use Prim.Native.Nat.{◌-◌}
 use native.Mathlib.Omega.{arith}
 use Rattle.theory.specs.Shows.{load_of}
 use Rattle.verdict.specs.Answers.{set_of}
 use Rattle.report.specs.Text.{session_line, session_lines}
-use Rattle.text.proofs.Puts.{PutTo, pieces_begun, piece_room, piece_put, pieces_ended, put_as, room_as}
+use Rattle.text.proofs.Puts.{pieces_begun, piece_room, piece_put, pieces_ended, put_as, room_as}
 use Rattle.report.proofs.Texts.{lines_none, lines_more, line_made}
 use Rattle.report.proofs.put_sessions.Goals as goal
 

@@ -1,7 +1,6 @@
 -- A file that is no show's, a show with no set, or the smallest set. Assumes nothing.
 use Rattle.report.proofs.Texts.{told_unread, told_yes, told_no}
 use Rattle.report.proofs.Sizes.{text_room}
-use borrow.Author.Rules.{rules}
 use Rattle.report.proofs.put_text.Goals as goal
 
 pub returns-in-Refused : goal.returns-in-Refused

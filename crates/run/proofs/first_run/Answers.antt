@@ -1,6 +1,5 @@
 -- `first_run` is the run that an accepted show begins with. Assumes nothing.
 use Rattle.run.specs.Opening.{first_run}
-use borrow.Author.Rules.{rules}
 use Rattle.run.proofs.first_run.Goals as goal
 
 pub returns : goal.returns

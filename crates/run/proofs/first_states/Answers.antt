@@ -1,16 +1,11 @@
 -- `first_states` fills the states from the front. Invariant: the first i stand; what falls: playing - i. Assumes nothing.
-use Prim.Native.Nat.{ℕ, ◌-◌, ◌≤◌}
-use mathlib.Core.Path.{◌≡◌, ap, ◌∙◌}
+use mathlib.Core.Path.{ap, ◌∙◌}
 use mathlib.Core.List.{List}
 use native.Mathlib.Omega.{arith}
 use lib.ListN.{set}
-use Rattle.show.specs.declared.Show.{Show}
-use Rattle.show.specs.Limits.{session_at}
-use Rattle.show.specs.Lists.{listed, padded}
 use Rattle.show.proofs.Lists.{filled_none, filled_more}
 use Rattle.state.specs.declared.State.{State}
-use Rattle.state.specs.State.{no_state, first_state}
-use borrow.Author.Rules.{rules}
+use Rattle.state.specs.State.{no_state}
 use Rattle.run.proofs.first_states.Goals as goal
 use Rattle.run.proofs.first_states.Invariants.{at, to}
 

@@ -1,6 +1,5 @@
 -- `open` answers by what is decided. Assumes nothing.
 use Rattle.run.proofs.Opening.{open_refused, open_granted, open_few}
-use borrow.Author.Rules.{rules}
 use Rattle.run.proofs.open.Goals as goal
 
 pub returns-in-Refused : goal.returns-in-Refused

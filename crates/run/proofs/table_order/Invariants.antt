@@ -1,10 +1,6 @@
 -- `table_order` fills an order from the front. Invariant: its first i places name themselves; what falls: playing - i. Assumes nothing.
-use Prim.Native.Nat.{ℕ, ◌-◌, ◌≤◌}
-use mathlib.Core.Path.{◌≡◌, ◌∙◌, ap}
-use mathlib.Core.List.{List}
-use native.Mathlib.Omega.{arith}
-use lib.ListN.{set}
-use Rattle.show.proofs.Lists.{filled_none, filled_more}
+use Prim.Native.Nat.{◌-◌, ◌≤◌}
+use mathlib.Core.Path.{◌≡◌}
 use Rattle.run.specs.Opening.{table_order}
 use Rattle.run.proofs.table_order.Given as goal
 

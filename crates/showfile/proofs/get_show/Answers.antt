@@ -1,6 +1,5 @@
 -- `get_show` reads the two rows. Assumes nothing.
 use Rattle.showfile.proofs.Got.{show_got}
-use borrow.Author.Rules.{rules}
 use Rattle.showfile.proofs.get_show.Goals as goal
 
 pub returns : goal.returns

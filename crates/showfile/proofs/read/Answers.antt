@@ -6,7 +6,6 @@ use Rattle.show.specs.Limits.{Between}
 use Rattle.show.proofs.Checks.{tells_yes, tells_no}
 use Rattle.showfile.specs.Checks.{file_least, file_most}
 use Rattle.showfile.proofs.Stops.{read_length, read_trailer, read_rest}
-use borrow.Author.Rules.{rules}
 use Rattle.showfile.proofs.read.Goals as goal
 
 pub returns-then-not-length_within : goal.returns-then-not-length_within

@@ -3,7 +3,6 @@ use native.Mathlib.Omega.{arith}
 use Rattle.showfile.proofs.Passed.{Framed, check_framed}
 use Rattle.showfile.proofs.Got.{limits_answered}
 use Rattle.showfile.specs.File.{show_from}
-use borrow.Author.Rules.{rules}
 use Rattle.showfile.proofs.read_limits.Goals as goal
 
 pub overflow_add-note : goal.overflow_add-note

@@ -2,7 +2,6 @@
 use mathlib.Core.Path.{refl}
 use Rattle.showfile.proofs.Sizes.{note_part}
 use Rattle.showfile_copy.proofs.Trip.{copy_refused, copy_answers}
-use borrow.Author.Rules.{rules}
 use Rattle.showfile_copy.proofs.copy.Goals as goal
 
 pub returns-in-Refused : goal.returns-in-Refused

@@ -7,7 +7,6 @@ use mathlib.Core.List.{List}
 use Prim.Native.Nat.{ℕ}
 use Rattle.show.specs.declared.Show.{Show}
 use Rattle.show.specs.declared.refusal.Check.TheVariants.{Within}
-use Rattle.show.specs.Limits.{CountsWithin}
 use Rattle.show.proofs.Lists.{unmapped}
 use Rattle.showfile.specs.File.{file_of}
 use Rattle.showfile.specs.Checks.{note_most}

@@ -1,7 +1,6 @@
 -- `write` writes what its test lets pass. Assumes nothing.
 use mathlib.Core.Path.{sym, ◌∙◌}
 use Rattle.showfile_write.proofs.Filed.{filed_refused, filed_within}
-use borrow.Author.Rules.{rules}
 use Rattle.showfile_write.proofs.write.Goals as goal
 
 pub returns-in-Refused : goal.returns-in-Refused

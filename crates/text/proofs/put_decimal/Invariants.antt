@@ -1,17 +1,11 @@
 -- From the last digit to the first: with the digits of what is left put in front, the whole number is put. What is left is the measure.
 -- Assumes nothing.
-use mathlib.Core.Path.{◌≡◌, refl, sym, ap, ◌∙◌}
+use mathlib.Core.Path.{◌≡◌}
 use mathlib.Core.List.{List}
-use Prim.Native.Nat.{ℕ, ◌+◌, ◌-◌, ◌/◌, ◌%◌, ◌^◌, ◌≤◌, ◌<◌}
-use native.Mathlib.Nat.{div-lt_self, mod-lt}
-use native.Mathlib.Omega.{arith}
-use lib.Dec.{lit<}
-use lib.ListN.{length, set, length-set}
+use Prim.Native.Nat.{ℕ, ◌+◌, ◌^◌, ◌<◌}
+use lib.ListN.{length}
 use Rattle.showfile.specs.Bytes.{over}
-use Rattle.showfile.proofs.ByteLaws.{one_over}
 use Rattle.text.specs.Decimal.{decimal}
-use Rattle.text.proofs.Puts.{over_behind}
-use Rattle.text.proofs.Digits.{decimal_last, decimal_more, decimal_least, one_less}
 use Rattle.text.proofs.put_decimal.Given as goal
 
 pub record SoFar (was : List ℕ) (at n : ℕ) (out : List ℕ) (last left : ℕ) : Type 0 where

@@ -4,7 +4,6 @@ use mathlib.Core.List.{List}
 use Prim.Native.Nat.{ℕ, ◌+◌, ◌≤◌}
 use native.Mathlib.Omega.{arith}
 use lib.ListN.{length, length-append}
-use borrow.Author.Rules.{rules}
 use Rattle.show.proofs.Checks.{tells_yes, tells_no}
 use Rattle.text.specs.Decimal.{decimal}
 use Rattle.text.specs.Lines.{paired}

@@ -6,8 +6,7 @@ use native.Mathlib.Omega.{arith}
 use lib.ListN.{length, length-append, get_or}
 use Rattle.text_forms.specs.Forms.{form_text, marks_of, piece_text}
 use Rattle.text.proofs.Puts.{longer}
-use Rattle.text_forms.proofs.Forms.{Used, used_begun, used_more, so_far, piece, piece_more, pieces_whole, piece_here}
-use borrow.Author.Rules.{rules}
+use Rattle.text_forms.proofs.Forms.{used_begun, used_more, so_far, piece, piece_more, pieces_whole, piece_here}
 use Rattle.text_forms.proofs.form_fits.Goals as goal
 use Rattle.text_forms.proofs.form_fits.Invariants.{SoFar}
 

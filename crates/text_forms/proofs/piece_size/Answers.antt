@@ -2,7 +2,6 @@
 use mathlib.Core.Path.{sym, ap, ◌∙◌}
 use native.Mathlib.Omega.{arith}
 use lib.ListN.{length}
-use borrow.Author.Rules.{rules}
 use Rattle.text_forms.proofs.Forms.{piece_byte, piece_number, piece_none}
 use Rattle.text_forms.proofs.piece_size.Goals as goal
 

@@ -1,5 +1,4 @@
 -- No room, or the pieces. Assumes nothing.
-use borrow.Author.Rules.{rules}
 use Rattle.show.proofs.Checks.{tells_yes, tells_no}
 use Rattle.text.specs.Puts.{FitsAt}
 use Rattle.text_forms.specs.Forms.{form_text}

@@ -2,7 +2,6 @@
 use mathlib.Core.Path.{◌≡◌, sym, ◌∙◌}
 use Prim.Native.Nat.{◌*◌}
 use native.Mathlib.Omega.{arith}
-use borrow.Author.Rules.{rules}
 use Rattle.show.proofs.Checks.{tells_yes, tells_no}
 use Rattle.theory.specs.Rounds.{need}
 use Rattle.count.proofs.Answers.{need_is, need_granted}

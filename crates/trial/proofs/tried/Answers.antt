@@ -1,6 +1,6 @@
 -- `tried` refuses a show outside the limits, and otherwise tells whether the counts hold, with their times. Invariants: the times of the
 -- first i sessions stand there; the counts of the first k hold. What falls: playing - i; playing - k. Assumes nothing.
-use Prim.Native.Nat.{◌-◌, ◌≤◌, ◌<◌}
+use Prim.Native.Nat.{◌≤◌, ◌<◌}
 use mathlib.Core.Path.{◌≡◌, sym, ap, subst, ◌∙◌}
 use native.Mathlib.Omega.{arith}
 use mir.Syntax.{w32}
@@ -18,13 +18,12 @@ use Rattle.cost.specs.Costs.{read_cost}
 use Rattle.cost.specs.WorstTimes.{takes_of}
 use Rattle.cost.proofs.Costs.{laid_below, layout_within, read_limited}
 use Rattle.cost.proofs.WorstTimes.{takes_granted}
-use Rattle.theory.specs.Shows.{load_of}
 use Rattle.count.proofs.Answers.{drive_block}
 use Rattle.verdict.specs.Answers.{set_of}
 use Rattle.verdict.specs.Steps.{time_most}
-use Rattle.verdict.proofs.Sets.{TimedTo, times_begun, times_body, times_ended, takes_told, time_same}
+use Rattle.verdict.proofs.Sets.{times_begun, times_body, times_ended, takes_told, time_same}
 use Rattle.trial.specs.Answers.{TrialIs, untried}
-use Rattle.trial.proofs.Trials.{HeldTo, held_begun, held_body, held_ended, held_broken, trial_holds, trial_fails}
+use Rattle.trial.proofs.Trials.{held_begun, held_body, held_ended, held_broken, trial_holds, trial_fails}
 use Rattle.trial.proofs.tried.Goals as goal
 
 pub returns-in-Refused : goal.returns-in-Refused

@@ -1,18 +1,16 @@
 -- `accepted` answers what a settled time asks for, with the times. Invariant: the counts and the times of the first i sessions stand
 -- there. What falls: playing - i. Assumes nothing.
-use Prim.Native.Nat.{◌-◌, ◌<◌}
+use Prim.Native.Nat.{◌<◌}
 use mathlib.Core.Path.{◌∙◌, ap}
 use native.Mathlib.Omega.{arith}
-use borrow.Author.Rules.{rules}
 use Rattle.show.proofs.Lists.{filled_none}
 use Rattle.cost.specs.Bound.{count_most}
 use Rattle.cost.proofs.Costs.{laid_below, layout_within}
-use Rattle.theory.specs.Rounds.{asked}
 use Rattle.theory.specs.Shows.{load_of}
 use Rattle.theory.proofs.Shows.{feasible_few}
 use Rattle.count.proofs.Answers.{drive_block}
 use Rattle.verdict.specs.declared.Verdict.TheVariants as verdict
-use Rattle.verdict.proofs.Sets.{Filled, row_begun, row_body, row_ended, TimedTo, times_begun, times_body, times_ended, time_same}
+use Rattle.verdict.proofs.Sets.{row_begun, row_body, row_ended, times_begun, times_body, times_ended, time_same}
 use Rattle.verdict.proofs.accepted.Goals as goal
 
 pub loop-i-init : goal.loop-i-init

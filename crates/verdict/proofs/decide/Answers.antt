@@ -1,6 +1,5 @@
 -- `decide` refuses a show outside the limits, and otherwise answers by the least time that sustains. Assumes nothing.
 use mathlib.Core.Path.{sym, ◌∙◌, subst}
-use borrow.Author.Rules.{rules}
 use Rattle.show.specs.Limits.{ShowWithin}
 use Rattle.show.proofs.Shows.{check_within}
 use Rattle.theory.proofs.Rounds.{least_smallest}

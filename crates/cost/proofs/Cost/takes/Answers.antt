@@ -1,6 +1,5 @@
 -- `takes` answers U of a cost, or the first refusal of 5 and 6. Assumes nothing.
 use mathlib.Core.Path.{sym, ap, ◌∙◌}
-use borrow.Author.Rules.{rules}
 use Rattle.show.specs.Limits.{Between}
 use Rattle.show.proofs.Checks.{tells_yes, tells_no}
 use Rattle.cost.specs.Bound.{Limited}

@@ -1,6 +1,5 @@
 -- `edges` answers n/N rounded up. Assumes nothing.
 use mathlib.Core.Path.{refl}
-use borrow.Author.Rules.{rules}
 use Rattle.cost.specs.Bound.{ceil, edges}
 use Rattle.cost.proofs.worst.edges.Goals as goal
 

@@ -1,7 +1,6 @@
 -- `worst_time` answers U of a session, or the first refusal of 2, 5, 6, 7 and 9. Assumes nothing.
 use mathlib.Core.Path.{◌≡◌, sym, ap, ◌∙◌}
 use native.Mathlib.Omega.{arith}
-use borrow.Author.Rules.{rules}
 use Rattle.show.specs.declared.Show.{Show}
 use Rattle.show.specs.declared.refusal.Check.TheVariants.{Within}
 use Rattle.show.specs.Checks.{show_check}

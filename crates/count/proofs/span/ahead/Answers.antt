@@ -1,7 +1,6 @@
 -- `ahead` computes the least count ahead of a rate, and never forms the rate times the time. Assumes nothing.
 use mathlib.Core.Path.{sym}
 use native.Mathlib.Omega.{arith}
-use borrow.Author.Rules.{rules}
 use Rattle.theory.proofs.Rounds.{need_split}
 use Rattle.count.proofs.Spans.{whole_capped, part_capped, sum_capped}
 use Rattle.count.proofs.span.ahead.Goals as goal

@@ -2,7 +2,6 @@
 use mathlib.Core.Path.{sym, ◌∙◌}
 use native.Mathlib.Omega.{arith}
 use Rattle.parse_numbers.proofs.Values.{longer_none, longer_fits, longer_large}
-use borrow.Author.Rules.{rules}
 use Rattle.parse_numbers.proofs.digits.longer.Goals as goal
 
 pub returns-in_default : goal.returns-in_default

@@ -2,7 +2,6 @@
 use mathlib.Core.Path.{sym, ◌∙◌}
 use native.Mathlib.Omega.{arith}
 use Rattle.parse_numbers.proofs.Pairs.{hex_small, no_high, no_low, both}
-use borrow.Author.Rules.{rules}
 use Rattle.parse_numbers.proofs.digits.pair.Goals as goal
 
 pub returns-in_default : goal.returns-in_default

@@ -1,12 +1,9 @@
 -- `add_up` adds up session by session. Invariant: the sums of the first i; what falls: playing - i. Assumes nothing.
-use Prim.Native.Nat.{◌-◌, ◌<◌}
 use mathlib.Core.Path.{◌≡◌, ◌∙◌}
 use native.Mathlib.Omega.{arith}
-use Rattle.show.specs.Limits.{ShowWithin}
 use Rattle.cost.specs.Costs.{cost_of}
 use Rattle.cost.proofs.Costs.{laid_below, cost_read}
-use Rattle.reason.proofs.Loads.{SumsTo, sums_begun, sums_body, sums_ended, blocks_capped, edges_capped}
-use borrow.Author.Rules.{rules}
+use Rattle.reason.proofs.Loads.{sums_begun, sums_body, sums_ended, blocks_capped, edges_capped}
 use Rattle.reason.proofs.work.add_up.Goals as goal
 
 pub loop-i-init : goal.loop-i-init

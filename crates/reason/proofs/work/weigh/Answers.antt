@@ -1,7 +1,6 @@
 -- `weigh` divides the load by the two sums. Assumes nothing.
 use native.Mathlib.Omega.{arith}
-use Rattle.reason.proofs.Loads.{full_some, full_capped, left_capped, whole_capped, weighed}
-use borrow.Author.Rules.{rules}
+use Rattle.reason.proofs.Loads.{full_capped, left_capped, whole_capped, weighed}
 use Rattle.reason.proofs.work.weigh.Goals as goal
 
 pub overflow_mul-full : goal.overflow_mul-full

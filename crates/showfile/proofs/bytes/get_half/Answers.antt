@@ -1,6 +1,5 @@
 -- `get_half` reads two bytes. Assumes nothing.
 use Rattle.showfile.proofs.ByteLaws.{half_at}
-use borrow.Author.Rules.{rules}
 use Rattle.showfile.proofs.bytes.get_half.Goals as goal
 
 pub returns : goal.returns

@@ -1,6 +1,5 @@
 -- `get_word` reads four bytes. Assumes nothing.
 use Rattle.showfile.proofs.ByteLaws.{word_at}
-use borrow.Author.Rules.{rules}
 use Rattle.showfile.proofs.bytes.get_word.Goals as goal
 
 pub returns : goal.returns

@@ -1,6 +1,5 @@
 -- `get_layout` reads four words. Assumes nothing.
 use Rattle.showfile.proofs.Got.{layout_got}
-use borrow.Author.Rules.{rules}
 use Rattle.showfile.proofs.rows.get_layout.Goals as goal
 
 pub returns : goal.returns

@@ -1,14 +1,11 @@
 -- `get_layouts` fills a row from the front. Invariant: the first i layouts stand there, zeros above; what falls: n - i. Assumes nothing.
-use Prim.Native.Nat.{◌*◌, ◌-◌, ◌≤◌}
+use Prim.Native.Nat.{◌-◌, ◌≤◌}
 use mathlib.Core.Path.{◌≡◌}
-use native.Mathlib.Omega.{arith}
 use lib.ListN.{drop}
-use lib.Seq.{drop-drop}
 use Rattle.show.specs.Limits.{no_layout}
 use Rattle.show.specs.Lists.{padded}
 use Rattle.showfile.specs.Bytes.{row_of}
 use Rattle.showfile.specs.File.{layout_of}
-use Rattle.showfile.proofs.RowLaws.{row_none, row_more}
 use Rattle.showfile.proofs.rows.get_layouts.Given as goal
 
 abbrev pub invariant-loop-i : goal.invariant-loop-i

@@ -1,6 +1,5 @@
 -- `get_session` reads four words. Assumes nothing.
 use Rattle.showfile.proofs.Got.{session_got}
-use borrow.Author.Rules.{rules}
 use Rattle.showfile.proofs.rows.get_session.Goals as goal
 
 pub returns : goal.returns

@@ -1,12 +1,10 @@
 -- `get_sessions` fills a row from the front. Invariant: the first i sessions stand there, zeros above; what falls: n - i. Assumes nothing.
-use Prim.Native.Nat.{◌*◌, ◌-◌, ◌≤◌}
+use Prim.Native.Nat.{◌*◌}
 use mathlib.Core.Path.{◌≡◌}
 use native.Mathlib.Omega.{arith}
 use lib.ListN.{drop}
 use lib.Seq.{drop-drop}
 use Rattle.show.specs.Limits.{no_session}
-use Rattle.show.specs.Lists.{padded}
-use Rattle.showfile.specs.Bytes.{row_of}
 use Rattle.showfile.specs.File.{session_of}
 use Rattle.showfile.proofs.RowLaws.{row_none, row_more}
 use Rattle.showfile.proofs.rows.get_sessions.Goals as goal

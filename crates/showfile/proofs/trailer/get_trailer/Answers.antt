@@ -1,6 +1,5 @@
 -- `get_trailer` reads twenty bytes. Assumes nothing.
 use Rattle.showfile.proofs.Got.{trailer_got}
-use borrow.Author.Rules.{rules}
 use Rattle.showfile.proofs.trailer.get_trailer.Goals as goal
 
 pub returns : goal.returns

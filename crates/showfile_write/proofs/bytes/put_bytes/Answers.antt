@@ -1,9 +1,9 @@
 -- `put_bytes` copies from the front. Invariant: the first i bytes are copied; what falls: length from - i. Assumes nothing.
-use Prim.Native.Nat.{ℕ, ◌-◌, ◌≤◌}
-use mathlib.Core.Path.{◌≡◌, refl, ap, ◌∙◌}
+use Prim.Native.Nat.{ℕ}
+use mathlib.Core.Path.{refl, ap, ◌∙◌}
 use mathlib.Core.List.{List}
 use native.Mathlib.Omega.{arith}
-use lib.ListN.{length, take, length-set}
+use lib.ListN.{length-set}
 use lib.Seq.{take_all}
 use Rattle.showfile.specs.Bytes.{over}
 use Rattle.showfile.proofs.ByteLaws.{over_nothing}

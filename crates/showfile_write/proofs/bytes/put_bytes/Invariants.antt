@@ -1,13 +1,8 @@
 -- `put_bytes` copies from the front. Invariant: the first i bytes are copied; what falls: length from - i. Assumes nothing.
-use Prim.Native.Nat.{ℕ, ◌-◌, ◌≤◌}
-use mathlib.Core.Path.{◌≡◌, refl, ap, ◌∙◌}
-use mathlib.Core.List.{List}
-use native.Mathlib.Omega.{arith}
-use lib.ListN.{length, take, length-set}
-use lib.Seq.{take_all}
+use Prim.Native.Nat.{◌-◌, ◌≤◌}
+use mathlib.Core.Path.{◌≡◌}
+use lib.ListN.{length, take}
 use Rattle.showfile.specs.Bytes.{over}
-use Rattle.showfile.proofs.ByteLaws.{over_nothing}
-use Rattle.showfile_write.proofs.ByteLaws.{copied_more}
 use Rattle.showfile_write.proofs.bytes.put_bytes.Given as goal
 
 abbrev pub invariant-loop-i : goal.invariant-loop-i

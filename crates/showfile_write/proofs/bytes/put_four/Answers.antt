@@ -1,6 +1,5 @@
 -- `put_four` writes four words, one after the other. Assumes nothing.
 use Rattle.showfile_write.proofs.ByteLaws.{four_words}
-use borrow.Author.Rules.{rules}
 use Rattle.showfile_write.proofs.bytes.put_four.Goals as goal
 
 pub returns : goal.returns

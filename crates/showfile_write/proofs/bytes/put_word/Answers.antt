@@ -3,7 +3,6 @@ use native.Mathlib.Omega.{arith}
 use lib.ListN.{length-set}
 use Rattle.showfile.specs.Bytes.{word_bytes}
 use Rattle.showfile_write.proofs.ByteLaws.{four_over}
-use borrow.Author.Rules.{rules}
 use Rattle.showfile_write.proofs.bytes.put_word.Goals as goal
 
 pub bounds-b-at-2 : goal.bounds-b-at-2

@@ -1,10 +1,9 @@
 -- `put_layouts` writes a row from the front. Invariant: the first i layouts are written; what falls: n - i. Assumes nothing.
-use Prim.Native.Nat.{◌-◌, ◌≤◌}
 use mathlib.Core.Path.{◌≡◌, refl}
 use native.Mathlib.Omega.{arith}
-use lib.ListN.{length, take}
+use lib.ListN.{length}
 use Rattle.show.specs.Limits.{no_layout}
-use Rattle.showfile.specs.Bytes.{row_bytes, over}
+use Rattle.showfile.specs.Bytes.{row_bytes}
 use Rattle.showfile.specs.File.{layout_bytes}
 use Rattle.showfile.proofs.ByteLaws.{over_nothing}
 use Rattle.showfile_write.proofs.RowLaws.{written_more}

@@ -1,15 +1,9 @@
 -- `put_layouts` writes a row from the front. Invariant: the first i layouts are written; what falls: n - i. Assumes nothing.
 use Prim.Native.Nat.{◌-◌, ◌≤◌}
-use mathlib.Core.Path.{◌≡◌, refl}
-use native.Mathlib.Omega.{arith}
+use mathlib.Core.Path.{◌≡◌}
 use lib.ListN.{length, take}
-use Rattle.show.specs.Limits.{no_layout}
 use Rattle.showfile.specs.Bytes.{row_bytes, over}
 use Rattle.showfile.specs.File.{layout_bytes}
-use Rattle.showfile.proofs.ByteLaws.{over_nothing}
-use Rattle.showfile_write.proofs.RowLaws.{written_more}
-use Rattle.showfile_write.proofs.Sizes.{layout_length}
-use borrow.Author.Rules.{rules}
 use Rattle.showfile_write.proofs.rows.put_layouts.Given as goal
 
 abbrev pub invariant-loop-i : goal.invariant-loop-i

@@ -4,7 +4,6 @@ use native.Mathlib.Omega.{arith}
 use Rattle.showfile.specs.Bytes.{word_bytes, half_bytes}
 use Rattle.showfile.specs.File.{trailer_bytes}
 use Rattle.showfile.proofs.ByteLaws.{over_then}
-use borrow.Author.Rules.{rules}
 use Rattle.showfile_write.proofs.trailer.put_trailer.Goals as goal
 
 pub returns : goal.returns

@@ -1,6 +1,5 @@
 -- `within` tells whether a state is sound. Assumes nothing.
 use Rattle.state.proofs.States.{state_started, state_waits}
-use borrow.Author.Rules.{rules}
 use Rattle.state.proofs.State.within.Goals as goal
 
 pub returns-then-started : goal.returns-then-started

@@ -1,6 +1,5 @@
 -- Below ten a figure, else a letter. Assumes nothing.
 use mathlib.Core.Path.{sym}
-use borrow.Author.Rules.{rules}
 use Rattle.text_forms.proofs.Pairs.{digit_low, digit_high}
 use Rattle.text_forms.proofs.hex.digit.Goals as goal
 

@@ -2,7 +2,6 @@
 use mathlib.Core.Path.{◌≡◌, sym, ap, ◌∙◌}
 use native.Mathlib.Omega.{arith}
 use lib.ListN.{length}
-use borrow.Author.Rules.{rules}
 use Rattle.show.proofs.Checks.{tells_yes, tells_no}
 use Rattle.text.specs.Puts.{put_over, put_to, FitsAt}
 use Rattle.text_forms.specs.Hex.{pairs_text, hex_text}

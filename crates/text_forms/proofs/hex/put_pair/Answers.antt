@@ -2,7 +2,6 @@
 use mathlib.Core.Path.{◌≡◌, sym, ap, ◌∙◌}
 use mathlib.Core.List.{[], ◌∷◌}
 use Prim.Native.Nat.{ℕ, ◌/◌, ◌%◌}
-use borrow.Author.Rules.{rules}
 use Rattle.text.proofs.Puts.{answer_as}
 use Rattle.text_forms.specs.Hex.{hex_digit, pair_text}
 use Rattle.text_forms.proofs.hex.put_pair.Goals as goal

@@ -1,12 +1,10 @@
 -- One byte a turn: what was put so far is the text of those before it. The measure is what is left of the bytes. Assumes nothing.
 use mathlib.Core.Path.{refl, sym}
-use Prim.Native.Nat.{◌-◌}
 use native.Mathlib.Omega.{arith}
 use lib.ListN.{length}
-use borrow.Author.Rules.{rules}
 use Rattle.text.specs.Puts.{FitsAt}
 use Rattle.text_forms.specs.Hex.{pairs_text}
-use Rattle.text.proofs.Puts.{PutTo, pieces_begun, piece_room, piece_put, pieces_ended, put_as, room_as}
+use Rattle.text.proofs.Puts.{pieces_begun, piece_room, piece_put, pieces_ended, put_as, room_as}
 use Rattle.text_forms.proofs.Pairs.{so_far, piece, piece_more, pieces_whole}
 use Rattle.text_forms.proofs.hex.put_pairs.Goals as goal
 

@@ -1,6 +1,5 @@
 -- `asks` answers the least count that is ahead of a rate within its limits: there nothing is refused. Assumes nothing.
 use mathlib.Core.Path.{sym, ◌∙◌}
-use borrow.Author.Rules.{rules}
 use Rattle.count.proofs.Answers.{need_is, need_granted}
 use Rattle.verdict.proofs.known.asks.Goals as goal
 

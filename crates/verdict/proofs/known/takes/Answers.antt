@@ -1,7 +1,6 @@
 -- `takes` answers U of reads on a layout within its limits: there nothing is refused. Assumes nothing.
 use mathlib.Core.Path.{◌≡◌, sym, ap, ◌∙◌}
 use native.Mathlib.Omega.{arith}
-use borrow.Author.Rules.{rules}
 use Rattle.cost.specs.declared.Cost.{Cost}
 use Rattle.cost.specs.Costs.{read_cost}
 use Rattle.cost.specs.WorstTimes.{takes_of}

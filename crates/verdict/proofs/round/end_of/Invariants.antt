@@ -1,9 +1,7 @@
 -- `end_of` finds the first time over which a count does not fit. Invariant: the end of the first i sessions; what falls: playing - i.
 -- Assumes nothing.
 use Prim.Native.Nat.{◌-◌}
-use native.Mathlib.Omega.{arith}
-use borrow.Author.Rules.{rules}
-use Rattle.verdict.proofs.Ends.{EndTo, can_last, end_begun, end_body, end_ended}
+use Rattle.verdict.proofs.Ends.{EndTo}
 use Rattle.verdict.proofs.round.end_of.Given as goal
 
 abbrev pub invariant-loop-i : goal.invariant-loop-i

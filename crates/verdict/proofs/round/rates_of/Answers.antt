@@ -1,11 +1,8 @@
 -- `rates_of` fills a row with the rates. Invariant: the first i stand there, zeros above; what falls: playing - i. Assumes nothing.
-use Prim.Native.Nat.{◌-◌}
 use mathlib.Core.Path.{refl}
 use native.Mathlib.Omega.{arith}
-use borrow.Author.Rules.{rules}
 use Rattle.show.proofs.Lists.{filled_none}
-use Rattle.verdict.specs.Steps.{rates_of}
-use Rattle.verdict.proofs.Sets.{Filled, row_begun, row_body, row_ended}
+use Rattle.verdict.proofs.Sets.{row_begun, row_body, row_ended}
 use Rattle.verdict.proofs.round.rates_of.Goals as goal
 
 pub loop-i-init : goal.loop-i-init

@@ -1,22 +1,19 @@
 -- `settle` finds the least time that sustains. Invariant of the loop: t is the sum of the times so far and at most every such time; of
 -- the inner one: the counts of the first i sessions are ahead over the time that the turn began at. What falls: end - t; playing - i.
 -- Assumes nothing.
-use Prim.Native.Nat.{◌+◌, ◌*◌, ◌/◌, ◌-◌, ◌<◌}
+use Prim.Native.Nat.{◌<◌}
 use mathlib.Core.Path.{◌≡◌}
-use mathlib.Core.Logic.{⊎_elim}
 use native.Mathlib.Omega.{arith}
-use borrow.Author.Rules.{rules}
-use lib.ListN.{get_or, set}
+use lib.ListN.{get_or}
 use Rattle.show.specs.declared.Show.{Show}
 use Rattle.show.specs.Limits.{ShowWithin}
 use Rattle.cost.proofs.Costs.{laid_below, layout_within}
-use Rattle.theory.specs.Counts.{unit}
 use Rattle.theory.specs.Rounds.{asked, Fits}
 use Rattle.theory.specs.Shows.{load_of}
 use Rattle.verdict.specs.Steps.{rates_of}
 use Rattle.verdict.proofs.Ends.{fits_early, none_late, none_begun}
 use Rattle.verdict.proofs.Works.{rate_at, count_asked, time_asked, count_few, covered_capped, work_capped}
-use Rattle.verdict.proofs.Turns.{Search, TurnTo, begun, stays, part, later_below, later_small, changes, turn_begun, settled}
+use Rattle.verdict.proofs.Turns.{begun, stays, part, later_below, later_small, changes, turn_begun, settled}
 use Rattle.verdict.proofs.round.settle.Goals as goal
 use Rattle.verdict.proofs.round.settle.Goals.{then-covered-i+else-end-t, else-covered-i}
 
@@ -169,14 +166,14 @@ loop-i-preserved c =
     let rate : get_or c.rates_of-rates.result c.loop-i.i 0 ≡ rates_of show c.loop-i.i =
     rate_at show _ c.rates_of-rates.ensures _ c.loop-i-test.true in
     elim c.if-covered-i.branch [
-      then-covered-i+else-end-t w ↦
-        let time : w.takes-time.result ≡ ((load_of show).stream c.loop-i.i).time (asked (load_of show) c.loop-i.t c.loop-i.i) =
-        time_asked _ within _ _ _ rate c.loop-i-test.true _ w.takes-time.ensures.0 in
-        rw (w.covered-is, w.times-is, w.t-is)
-        (changes _ within _ _ _ _ _ _ c.loop-i.invariant c.loop-i-test.true _ time _ (count_asked _ within _ _ _ rate) w.if-end-t.false)
-    | else-covered-i w ↦
-        rw (w.covered-is, w.times-is, w.t-is)
-        (stays _ within _ _ _ _ _ _ c.loop-i.invariant c.loop-i-test.true _ rate w.if-covered-i.false)
+      | then-covered-i+else-end-t w ↦
+          let time : w.takes-time.result ≡ ((load_of show).stream c.loop-i.i).time (asked (load_of show) c.loop-i.t c.loop-i.i) =
+          time_asked _ within _ _ _ rate c.loop-i-test.true _ w.takes-time.ensures.0 in
+          rw (w.covered-is, w.times-is, w.t-is)
+          (changes _ within _ _ _ _ _ _ c.loop-i.invariant c.loop-i-test.true _ time _ (count_asked _ within _ _ _ rate) w.if-end-t.false)
+      | else-covered-i w ↦
+          rw (w.covered-is, w.times-is, w.t-is)
+          (stays _ within _ _ _ _ _ _ c.loop-i.invariant c.loop-i-test.true _ rate w.if-covered-i.false)
     ]
 
 pub returns-then-t-before : goal.returns-then-t-before

@@ -1,6 +1,5 @@
 -- `sooner` answers how long a round a session's buffer takes, or the end so far. Assumes nothing.
 use native.Mathlib.Omega.{arith}
-use borrow.Author.Rules.{rules}
 use Rattle.verdict.proofs.Ends.{most_capped, sooner_none, sooner_last, sooner_end}
 use Rattle.verdict.proofs.round.sooner.Goals as goal
 

@@ -6,7 +6,6 @@ use Rattle.show.proofs.Checks.{tells_yes, tells_no}
 use Rattle.showfile.specs.Checks.{Distanced}
 use Rattle.showfile.proofs.Passed.{framed_check}
 use Rattle.showfile.proofs.Stops.{trailer_counts, trailer_distances, trailer_note}
-use borrow.Author.Rules.{rules}
 use Rattle.showfile.proofs.trailer.Trailer.check.Goals as goal
 
 pub returns-then-not-counts_within : goal.returns-then-not-counts_within
