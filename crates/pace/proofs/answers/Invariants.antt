@@ -1,5 +1,5 @@
 -- `pace::answers` is safe and ends. The invariant: a line starts within the text, or just past it, and there are no more lines than bytes.
--- The measure: the bytes that are left. Assumes nothing.
+-- The measure: the bytes that are left.
 use Rattle.std.proofs.Common.{◌+◌, ◌-◌, ◌≤◌, length}
 use Rattle.pace.proofs.answers.Given as goal
 

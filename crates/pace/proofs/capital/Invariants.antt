@@ -1,5 +1,4 @@
 -- `pace::capital` is safe and ends. The invariant: `b` is a letter, or the byte after the last. The measure: the letters that are left.
--- Assumes nothing.
 use Rattle.std.proofs.Common.{◌-◌, ◌≤◌}
 use Rattle.pace.proofs.capital.Given as goal
 

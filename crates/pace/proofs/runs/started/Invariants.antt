@@ -1,5 +1,4 @@
 -- `pace::runs::started` is safe and ends. The invariant: `i` is at most `blocks`. The measure: the blocks that are left.
--- Assumes nothing.
 use Rattle.std.proofs.Common.{◌-◌, ◌≤◌}
 use Rattle.pace.proofs.runs.started.Given as goal
 

@@ -1,5 +1,4 @@
 -- `pace::shows::opens` is safe and ends. The invariant: `k` is at most `turns`. The measure: the turns that are left.
--- Assumes nothing.
 use Rattle.std.proofs.Common.{◌-◌, ◌≤◌}
 use Rattle.pace.proofs.shows.opens.Given as goal
 
