@@ -50,8 +50,7 @@ module _ (s : Show) (w : ShowWithin s) (i : ℕ) (l : i < s.playing) where
   cost_limited = read_limited _ layout_within
 
   -- U of each session has the laws.
-  pub session_laws :
-      let N = s.drive.cylinder in let c = cost_of s i in BoundLaws N (weight N c) (surplus_of N c) (worst_time N c)
+  pub session_laws : BoundLaws s.drive.cylinder (weight s.drive.cylinder (cost_of s i)) (surplus_of s.drive.cylinder (cost_of s i)) (worst_time s.drive.cylinder (cost_of s i))
   session_laws = worst_laws s.drive.cylinder w.drive.cylinder.low (cost_of s i) cost_modest
 
 -- Shows that agree below their counts have the same costs there.
