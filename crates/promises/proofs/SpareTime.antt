@@ -12,7 +12,7 @@ use lib.Signed.{◌≤ℤ◌, clash_ℤ}
 use Rattle.show.specs.declared.refusal.Refusal.{Refusal}
 use Rattle.show.specs.declared.refusal.Refusal.TheVariants.{Damaged}
 use Rattle.show.specs.declared.refusal.Check.{Check}
-use Rattle.show.specs.declared.refusal.Check.TheVariants.{Within, Refused}
+use Rattle.show.specs.declared.refusal.Check.TheVariants.{Within}
 use Rattle.theory.specs.Floor.{Floors}
 use Rattle.theory.specs.Slack.{less?, spare_by, slack_by, Before, rank}
 use Rattle.theory.proofs.Integers.{not_less, ≤ℤ-antisymm}

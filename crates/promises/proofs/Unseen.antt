@@ -17,7 +17,6 @@ use Rattle.show.proofs.Shows.{alike_check}
 use Rattle.cost.proofs.WorstTimes.{alike_worst}
 use Rattle.showfile_write.proofs.Unused.{written_same, buffer_same}
 use Rattle.showfile_copy.proofs.UnusedAgain.{reread_same}
-use Rattle.theory.specs.Slack.{slack}
 use Rattle.verdict.specs.declared.Decision.{Decision}
 use Rattle.verdict.specs.declared.Verdict.{Verdict}
 use Rattle.verdict.specs.declared.Verdict.TheVariants as verdict

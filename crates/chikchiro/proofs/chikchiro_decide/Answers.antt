@@ -2,7 +2,6 @@ use Rattle.showfile.proofs.ByteLaws.{one_over}
 use native.Mathlib.Omega.{arith}
 use Rattle.chikchiro.proofs.Answers.{decision_small, decided_no, decided_yes}
 use Rattle.chikchiro.specs.Answers.{short, slices}
-use borrow.Author.Rules.{rules}
 use Rattle.chikchiro.proofs.chikchiro_decide.Goals as goal
 
 pub returns-then-counts-lt16 : goal.returns-then-counts-lt16

@@ -2,7 +2,6 @@ use native.Mathlib.Omega.{arith}
 use Rattle.chikchiro.proofs.Answers.{reason_small, reasoned_as}
 use Rattle.chikchiro.specs.Answers.{short}
 use mathlib.Core.Path.{refl}
-use borrow.Author.Rules.{rules}
 use Rattle.chikchiro.proofs.chikchiro_reason.Goals as goal
 
 pub returns-then-reason-lt3 : goal.returns-then-reason-lt3

@@ -1,6 +1,4 @@
-use borrow.Author.Rules.{rules}
-use native.Mathlib.Omega.{arith}
-use Rattle.chikchiro.proofs.Rows.{Filled, row_begun, row_more, row_ended}
+use Rattle.chikchiro.proofs.Rows.{Filled}
 use Prim.Native.Nat.{◌-◌}
 use Rattle.chikchiro.proofs.put_counts.Given as goal
 

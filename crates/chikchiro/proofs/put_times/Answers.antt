@@ -1,7 +1,5 @@
-use borrow.Author.Rules.{rules}
 use native.Mathlib.Omega.{arith}
-use Rattle.chikchiro.proofs.Rows.{Filled, row_begun, row_more, row_ended}
-use Prim.Native.Nat.{◌-◌}
+use Rattle.chikchiro.proofs.Rows.{row_begun, row_more, row_ended}
 use Rattle.chikchiro.proofs.put_times.Goals as goal
 
 pub loop-i-init : goal.loop-i-init

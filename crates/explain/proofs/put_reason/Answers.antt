@@ -8,7 +8,6 @@ use Rattle.reason.specs.declared.Reason.{Reason}
 use Rattle.reason.specs.declared.Reason.TheVariants.{None, Overload}
 use Rattle.explain.specs.Text.{reason_text}
 use Rattle.explain.proofs.Sizes.{reason_room}
-use borrow.Author.Rules.{rules}
 use Rattle.explain.proofs.put_reason.Goals as goal
 
 -- the text by the reason's own name

@@ -7,7 +7,6 @@ use Rattle.text.proofs.Lines.{refusal_made}
 use Rattle.show.specs.Refusals.{told_of}
 use Rattle.explain.specs.Text.{sentence, refusal_text}
 use Rattle.explain.proofs.Sizes.{refusal_room}
-use borrow.Author.Rules.{rules}
 use Rattle.explain.proofs.put_refusal.Goals as goal
 
 pub put_sentence-requires : goal.put_sentence-requires

@@ -1,6 +1,5 @@
 -- A file that is no show's, or a show's reason with the load of its drive. Assumes nothing.
 use Rattle.explain.proofs.Texts.{told_unread, told_reason, never_refused}
-use borrow.Author.Rules.{rules}
 use Rattle.explain.proofs.put_text.Goals as goal
 
 pub returns-in-Refused : goal.returns-in-Refused

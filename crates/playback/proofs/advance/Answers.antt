@@ -1,7 +1,6 @@
 -- `advance` moves each clock on. Invariant: the first i have gone on; what falls: playing - i. Assumes nothing.
-use Prim.Native.Nat.{◌-◌}
 use native.Mathlib.Omega.{arith}
-use Rattle.playback.proofs.Clocks.{AdvancedTo, advanced_none, advanced_ready, advanced_more, advanced_all, advanced_not}
+use Rattle.playback.proofs.Clocks.{advanced_none, advanced_ready, advanced_more, advanced_all, advanced_not}
 use Rattle.playback.proofs.advance.Goals as goal
 
 pub returns-then-not-started : goal.returns-then-not-started

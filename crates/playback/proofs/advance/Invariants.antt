@@ -1,7 +1,6 @@
 -- `advance` moves each clock on. Invariant: the first i have gone on; what falls: playing - i. Assumes nothing.
 use Prim.Native.Nat.{◌-◌}
-use native.Mathlib.Omega.{arith}
-use Rattle.playback.proofs.Clocks.{AdvancedTo, advanced_none, advanced_ready, advanced_more, advanced_all, advanced_not}
+use Rattle.playback.proofs.Clocks.{AdvancedTo}
 use Rattle.playback.proofs.advance.Given as goal
 
 abbrev pub invariant-loop-i : goal.invariant-loop-i

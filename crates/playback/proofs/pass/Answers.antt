@@ -3,7 +3,6 @@ use Rattle.run.specs.Sound.{SoundRun}
 use Rattle.run_test.proofs.Tests.{tested_sound, tested_damaged}
 use Rattle.playback.proofs.Clocks.{sound_clocked, advanced_run}
 use Rattle.playback.proofs.Calls.{pass_damaged, pass_long, pass_granted}
-use borrow.Author.Rules.{rules}
 use Rattle.playback.proofs.pass.Goals as goal
 
 pub returns-in_default : goal.returns-in_default

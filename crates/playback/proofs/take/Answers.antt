@@ -1,7 +1,6 @@
 -- `take` hands a session's state to the player's take, and its answer on. Assumes nothing.
 use Prim.Native.Nat.{◌<◌}
 use native.Mathlib.Omega.{arith}
-use borrow.Author.Rules.{rules}
 use Rattle.run.specs.Sound.{SoundRun}
 use Rattle.run_test.proofs.Tests.{tested_sound, tested_damaged}
 use Rattle.playback.proofs.Calls.{take_damaged, take_nobody, take_handed, take_granted}

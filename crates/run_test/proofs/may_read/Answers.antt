@@ -2,7 +2,6 @@
 use mathlib.Core.Path.{sym, ◌∙◌}
 use Rattle.run.proofs.Steps.{nothing_read}
 use Rattle.run_test.proofs.Tests.{read_told}
-use borrow.Author.Rules.{rules}
 use Rattle.run_test.proofs.may_read.Goals as goal
 
 pub returns-in_default : goal.returns-in_default

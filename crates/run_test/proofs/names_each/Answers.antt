@@ -1,8 +1,6 @@
 -- `names_each` tells whether an order names each session once. Invariant: the first k places do, and are marked; what falls: playing - k. Assumes nothing.
-use Prim.Native.Nat.{◌-◌}
 use native.Mathlib.Omega.{arith}
-use Rattle.run_test.proofs.Named.{NamedTo, named_none, named_past, named_twice, named_more, named_all}
-use borrow.Author.Rules.{rules}
+use Rattle.run_test.proofs.Named.{named_none, named_past, named_twice, named_more, named_all}
 use Rattle.run_test.proofs.names_each.Goals as goal
 
 pub loop-k-init : goal.loop-k-init

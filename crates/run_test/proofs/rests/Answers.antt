@@ -1,7 +1,6 @@
 -- `rests` tells whether a cycle of nobody is at its beginning. Assumes nothing.
 use mathlib.Core.Path.{sym, ◌∙◌}
 use Rattle.run.proofs.Steps.{nothing_read}
-use borrow.Author.Rules.{rules}
 use Rattle.run_test.proofs.rests.Goals as goal
 
 pub returns-in_default : goal.returns-in_default

@@ -1,7 +1,6 @@
 -- `turns` tells whether the cycle is at one of its places. Assumes nothing.
 use native.Mathlib.Omega.{arith}
 use Rattle.run.proofs.Orders.{names_below}
-use borrow.Author.Rules.{rules}
 use Rattle.run_test.proofs.turns.Goals as goal
 
 pub offset_bounds-counts-seat : goal.offset_bounds-counts-seat

@@ -8,7 +8,6 @@ use Rattle.order.specs.Order.{place_in}
 use Rattle.order.proofs.Orders.{named_same, ordered_few}
 use Rattle.standing.proofs.Standings.{place_in_is}
 use Rattle.spare.proofs.Calls.{cycling_is}
-use borrow.Author.Rules.{rules}
 use Rattle.spare.proofs.cycling.Goals as goal
 
 pub returns : goal.returns

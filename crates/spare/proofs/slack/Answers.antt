@@ -4,7 +4,6 @@ use Rattle.run.specs.Sound.{SoundRun}
 use Rattle.standing.specs.Answers.{slack_for}
 use Rattle.standing.proofs.Calls.{stood_sound, stood_damaged, stood_standing}
 use Rattle.spare.proofs.Calls.{slack_damaged, slack_stood}
-use borrow.Author.Rules.{rules}
 use Rattle.spare.proofs.slack.Goals as goal
 
 pub returns-in_default : goal.returns-in_default

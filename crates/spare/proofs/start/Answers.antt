@@ -2,7 +2,6 @@
 use Rattle.run.specs.Sound.{SoundRun}
 use Rattle.standing.proofs.Calls.{stood_sound, stood_damaged, stood_standing}
 use Rattle.spare.proofs.Calls.{start_damaged, start_again, start_busy, start_begun}
-use borrow.Author.Rules.{rules}
 use Rattle.spare.proofs.start.Goals as goal
 
 pub returns-in_default : goal.returns-in_default

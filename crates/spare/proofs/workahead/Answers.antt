@@ -5,7 +5,6 @@ use Rattle.run.specs.Sound.{SoundRun}
 use Rattle.run_test.proofs.Tests.{tested_sound, tested_damaged}
 use Rattle.standing.proofs.Countings.{counting}
 use Rattle.spare.proofs.Calls.{workahead_damaged, workahead_nobody, workahead_for}
-use borrow.Author.Rules.{rules}
 use Rattle.spare.proofs.workahead.Goals as goal
 
 pub returns-in_default : goal.returns-in_default

@@ -1,5 +1,4 @@
 -- `aheads` fills a row from the front. Invariant: the first i workaheads stand there, zeros above; what falls: playing - i. Assumes nothing.
-use Prim.Native.Nat.{ℕ, ◌-◌, ◌≤◌}
 use mathlib.Core.Path.{◌≡◌, sym, ◌∙◌, ap}
 use mathlib.Core.List.{List}
 use native.Mathlib.Omega.{arith}
@@ -7,7 +6,6 @@ use lib.IntN.{ℤ, pos}
 use lib.ListN.{set}
 use mir.Syntax.{w64}
 use mir.Val.{to_z, of_z}
-use Rattle.show.specs.Lists.{listed, padded}
 use Rattle.show.proofs.Lists.{filled_none, filled_more}
 use Rattle.run.specs.declared.Run.{Run}
 use Rattle.workahead.specs.declared.Spare.TheVariants as spare

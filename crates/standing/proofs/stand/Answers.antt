@@ -1,6 +1,5 @@
 -- `stand` tests the record and tells the standing. Assumes nothing.
 use mathlib.Core.Path.{ap, ◌∙◌}
-use borrow.Author.Rules.{rules}
 use Rattle.show.specs.declared.refusal.Refusal.TheVariants.{Damaged}
 use Rattle.show.specs.declared.refusal.Check.TheVariants.{Refused}
 use Rattle.run.specs.Sound.{SoundRun}

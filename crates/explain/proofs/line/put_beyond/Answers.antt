@@ -4,7 +4,6 @@ use Rattle.text.proofs.Puts.{room_put, room_first, room_then, put_then}
 use Rattle.reason.specs.declared.Reason.TheVariants.{Beyond}
 use Rattle.explain.specs.Text.{beyond_text}
 use Rattle.explain.proofs.Sizes.{reason_room}
-use borrow.Author.Rules.{rules}
 use Rattle.explain.proofs.line.put_beyond.Goals as goal
 
 pub put_load-most-requires : goal.put_load-most-requires

@@ -7,7 +7,6 @@ use Rattle.text.proofs.Puts.{room_put, room_first, room_then, answer_then}
 use Rattle.reason.specs.declared.Reason.TheVariants.{Buffer}
 use Rattle.explain.specs.Text.{load_text, buffer_text}
 use Rattle.explain.proofs.Sizes.{reason_room}
-use borrow.Author.Rules.{rules}
 use Rattle.explain.proofs.line.put_buffer.Goals as goal
 
 abbrev lastly : ℕ → List ℕ

@@ -1,6 +1,5 @@
 -- Two numbers among words. Assumes nothing.
 use Rattle.text.proofs.Puts.{room_put}
-use borrow.Author.Rules.{rules}
 use Rattle.explain.proofs.line.put_load.Goals as goal
 
 pub returns : goal.returns

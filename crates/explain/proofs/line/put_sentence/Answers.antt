@@ -9,7 +9,6 @@ use Rattle.show.specs.declared.refusal.Told.{Told}
 use Rattle.text.specs.Puts.{put_over, put_to, FitsAt, Put}
 use Rattle.text.proofs.Puts.{answer_as}
 use Rattle.explain.specs.Text.{plainly, sentences, spoken, sentence}
-use borrow.Author.Rules.{rules}
 use Rattle.explain.proofs.line.put_sentence.Goals as goal
 
 -- an arm whose number the table has

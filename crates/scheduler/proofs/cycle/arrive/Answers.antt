@@ -4,7 +4,6 @@ use native.Mathlib.Omega.{arith}
 use Rattle.run.specs.Run.{seat_at}
 use Rattle.run.proofs.Seats.{sound_seated, seat_few, seat_put}
 use Rattle.scheduler.proofs.Cycles.{arrives_late, arrives}
-use borrow.Author.Rules.{rules}
 use Rattle.scheduler.proofs.cycle.arrive.Goals as goal
 
 pub offset_bounds-run-seat : goal.offset_bounds-run-seat

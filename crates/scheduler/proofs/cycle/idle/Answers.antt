@@ -1,6 +1,5 @@
 -- `idle` lets an operation begin at the place. Assumes nothing.
 use Rattle.run.specs.Steps.{idled}
-use borrow.Author.Rules.{rules}
 use Rattle.scheduler.proofs.cycle.idle.Goals as goal
 
 pub returns : goal.returns

@@ -1,10 +1,9 @@
 -- `apart` seats all and looks for each. Invariant: the first i are found at their places; what falls: playing - i. Assumes nothing.
-use Prim.Native.Nat.{ℕ, ◌-◌, ◌≤◌, ◌<◌}
+use Prim.Native.Nat.{ℕ, ◌<◌}
 use mathlib.Core.Path.{◌≡◌, sym, ap, ◌∙◌}
 use mathlib.Core.List.{List}
 use native.Mathlib.Omega.{arith}
 use borrow.Author.Count.{below_more}
-use borrow.Author.Rules.{rules}
 use lib.ListN.{get_or, replicate, length-replicate}
 use Rattle.order.specs.Order.{named, place_in}
 use Rattle.order.proofs.Orders.{ordered_few}

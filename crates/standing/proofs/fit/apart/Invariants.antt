@@ -1,14 +1,8 @@
 -- `apart` seats all and looks for each. Invariant: the first i are found at their places; what falls: playing - i. Assumes nothing.
 use Prim.Native.Nat.{ℕ, ◌-◌, ◌≤◌, ◌<◌}
-use mathlib.Core.Path.{◌≡◌, sym, ap, ◌∙◌}
-use mathlib.Core.List.{List}
-use native.Mathlib.Omega.{arith}
-use borrow.Author.Count.{below_more}
-use borrow.Author.Rules.{rules}
-use lib.ListN.{get_or, replicate, length-replicate}
-use Rattle.order.specs.Order.{named, place_in}
-use Rattle.order.proofs.Orders.{ordered_few}
-use Rattle.standing.proofs.Fits.{apart_found, found_apart}
+use mathlib.Core.Path.{◌≡◌}
+use lib.ListN.{get_or}
+use Rattle.order.specs.Order.{place_in}
 use Rattle.standing.proofs.fit.apart.Given as goal
 
 abbrev pub invariant-loop-i : goal.invariant-loop-i

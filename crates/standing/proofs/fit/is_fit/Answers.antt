@@ -1,5 +1,4 @@
 -- `is_fit` tries the count, the numbers and the places. Assumes nothing.
-use borrow.Author.Rules.{rules}
 use native.Mathlib.Omega.{arith}
 use Rattle.show.proofs.Checks.{tells_yes, tells_no}
 use Rattle.standing.specs.Standing.{SmallTo}

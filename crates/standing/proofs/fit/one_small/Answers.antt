@@ -1,5 +1,4 @@
 -- `one_small` tells whether the numbers of a session are small. Assumes nothing.
-use borrow.Author.Rules.{rules}
 use native.Mathlib.Omega.{arith}
 use mir.Facts.{to_z-of_z}
 use Rattle.show.proofs.Checks.{tells_yes, tells_no}

@@ -1,7 +1,6 @@
 -- `least` finds the least. Invariant: that of the first k places; what falls: playing - k. Assumes nothing.
-use Prim.Native.Nat.{ℕ, ◌+◌, ◌-◌, ◌^◌, ◌≤◌, ◌<◌}
+use Prim.Native.Nat.{ℕ, ◌+◌, ◌^◌, ◌≤◌, ◌<◌}
 use mathlib.Core.Path.{◌≡◌, sym, ap, subst, ◌∙◌}
-use mathlib.Core.Logic.{inl, inr}
 use native.Mathlib.Nat.{lt_of_le_of_lt}
 use native.Mathlib.Omega.{arith}
 use lib.IntN.{ℤ, pos, ◌-ℤ◌}
@@ -162,7 +161,7 @@ loop-k-preserved c =
     e ∙ c.net-spare.ensures ∙ ap (λ (z : ℤ). z -ℤ pos load) next_ahead in
     let to : ℕ → Type 0 = λ x. LeastTo given c.ordered-seats.result load (to_z w64 x) (c.loop-k.k + 1) in
     elim c.if-spare-least.branch [
-      goal.then-spare-least w ↦
+      | goal.then-spare-least w ↦
           subst to (sym w.least-is-bits)
           (turned_less given c.ordered-seats.result seats _ _ _ _ c.loop-k.invariant c.loop-k-test.true spare_is (test_less w.if-spare-least.true))
       | goal.else-spare-least w ↦
