@@ -23,10 +23,12 @@ code-requires c =
 pub returns-in-Refused : goal.returns-in-Refused
 returns-in-Refused c =
     decided_no _ (slices c.args.counts.now c.args.times.now c.args.round.now) c.decided-decision.result
-    (record { counts = c.if-counts-lt16.false; times = c.if-times-lt16.false; round = c.if-round-lt1.false }) c.decided-decision.ensures c.in-Refused.is c.code.ensures
+    (record { counts = c.if-counts-lt16.false; times = c.if-times-lt16.false; round = c.if-round-lt1.false }) c.decided-decision.ensures
+    c.in-Refused.is c.code.ensures
 
 pub returns : goal.returns
 returns c =
     decided_yes _ (slices c.args.counts.now c.args.times.now c.args.round.now) c.decided-decision.result
-    (record { counts = c.if-counts-lt16.false; times = c.if-times-lt16.false; round = c.if-round-lt1.false }) c.decided-decision.ensures c.in_default.is
+    (record { counts = c.if-counts-lt16.false; times = c.if-times-lt16.false; round = c.if-round-lt1.false }) c.decided-decision.ensures
+    c.in_default.is
     c.put_counts.ensures c.put_times.ensures (one_over _ 0 _ c.if-round-lt1.false)

@@ -18,15 +18,18 @@ returns-in-None c =
 
 pub returns-in-Overload : goal.returns-in-Overload
 returns-in-Overload c =
-    reasoned_as _ _ c.reasoned.result c.if-reason-lt3.false c.reasoned.ensures c.in-Overload.is c.put_reason-in-Overload.ensures.0 c.put_reason-in-Overload.ensures.1
+    reasoned_as _ _ c.reasoned.result c.if-reason-lt3.false c.reasoned.ensures c.in-Overload.is c.put_reason-in-Overload.ensures.0
+    c.put_reason-in-Overload.ensures.1
 
 pub returns-in-Beyond : goal.returns-in-Beyond
 returns-in-Beyond c =
-    reasoned_as _ _ c.reasoned.result c.if-reason-lt3.false c.reasoned.ensures c.in-Beyond.is c.put_reason-in-Beyond.ensures.0 c.put_reason-in-Beyond.ensures.1
+    reasoned_as _ _ c.reasoned.result c.if-reason-lt3.false c.reasoned.ensures c.in-Beyond.is c.put_reason-in-Beyond.ensures.0
+    c.put_reason-in-Beyond.ensures.1
 
 pub returns-in-Buffer : goal.returns-in-Buffer
 returns-in-Buffer c =
-    reasoned_as _ _ c.reasoned.result c.if-reason-lt3.false c.reasoned.ensures c.in-Buffer.is c.put_reason-in-Buffer.ensures.0 c.put_reason-in-Buffer.ensures.1
+    reasoned_as _ _ c.reasoned.result c.if-reason-lt3.false c.reasoned.ensures c.in-Buffer.is c.put_reason-in-Buffer.ensures.0
+    c.put_reason-in-Buffer.ensures.1
 
 pub returns-in-Refused : goal.returns-in-Refused
 returns-in-Refused c =

@@ -4,14 +4,6 @@ use mathlib.Core.Path.{ap}
 use borrow.Author.Rules.{rules}
 use Rattle.chikchiro.proofs.code.Goals as goal
 
-pub told-told-requires : goal.told-told-requires
-told-told-requires c =
-    search rules
-
-pub overflow_cast-result : goal.overflow_cast-result
-overflow_cast-result c =
-    search rules
-
 pub overflow_mul-result : goal.overflow_mul-result
 overflow_mul-result c =
     record { fits = (let e = ap (λ (t : Told). t.place) c.told-told.ensures in omega (arith, e, c.requires)) }

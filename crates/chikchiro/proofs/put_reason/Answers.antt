@@ -6,22 +6,10 @@ use mathlib.Core.Path.{refl}
 use borrow.Author.Rules.{rules}
 use Rattle.chikchiro.proofs.put_reason.Goals as goal
 
-pub bounds-out-0 : goal.bounds-out-0
-bounds-out-0 c =
-    search rules
-
 pub bounds-out-1 : goal.bounds-out-1
 bounds-out-1 c =
     (let h : 1 < length
     (set c.args.out.now 0 c.args.kind) = (let e = length-set c.args.out.now 0 c.args.kind in omega (arith, e, c.requires)) in h)
-
-pub bounds-out-2 : goal.bounds-out-2
-bounds-out-2 c =
-    search rules
-
-pub shape_of-out : goal.shape_of-out
-shape_of-out c =
-    search rules
 
 pub returns : goal.returns
 returns c =

@@ -10,7 +10,8 @@ pub returns-in-Tenths : goal.returns-in-Tenths
 returns-in-Tenths c =
     record {
       text = _;
-      holds = told_reason _ c.read-got.result c.read-got.ensures c.in_default.is c.load-loaded.result c.load-loaded.ensures _ _ c.in-Tenths.is c.why-reason.ensures;
+      holds = told_reason _ c.read-got.result c.read-got.ensures c.in_default.is c.load-loaded.result c.load-loaded.ensures _ _ c.in-Tenths.is
+          c.why-reason.ensures;
       put = c.put_reason.ensures;
     }
 

@@ -7,14 +7,6 @@ use Rattle.parse.proofs.Turns.{next_within, rest_after, rest_none}
 use borrow.Author.Rules.{rules}
 use Rattle.parse.proofs.past.Goals as goal
 
-pub next-end-requires : goal.next-end-requires
-next-end-requires c =
-    search rules
-
-pub overflow_add-result : goal.overflow_add-result
-overflow_add-result c =
-    search rules
-
 pub returns-then-end-text : goal.returns-then-end-text
 returns-then-end-text c =
     (omega arith, ap (λ (n : ℕ). drop (n + 1) c.args.text.now) c.next-end.ensures ∙ rest_after c.args.mark c.args.text.now c.args.at)

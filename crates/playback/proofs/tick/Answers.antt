@@ -4,10 +4,6 @@ use Rattle.playback.proofs.Clocks.{moves_few, ticks_free, ticks_caught}
 use borrow.Author.Rules.{rules}
 use Rattle.playback.proofs.tick.Goals as goal
 
-pub overflow_mul-most : goal.overflow_mul-most
-overflow_mul-most c =
-    search rules
-
 pub overflow_mul-clock : goal.overflow_mul-clock
 overflow_mul-clock c =
     let m = moves_few c.args.rate c.args.d (omega arith) c.requires.d_le_span_most in omega arith

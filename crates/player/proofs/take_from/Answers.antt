@@ -5,10 +5,6 @@ use Rattle.state.specs.State.{StateSound}
 use Rattle.player.proofs.Takes.{take_damaged, take_early, take_over, take_granted}
 use Rattle.player.proofs.take_from.Goals as goal
 
-pub within-requires : goal.within-requires
-within-requires c =
-    search rules
-
 pub returns-then-not-within : goal.returns-then-not-within
 returns-then-not-within c =
     take_damaged _ _ _ _ (tells_no _ c.within.result c.if-not-within.true c.within.ensures)
@@ -27,10 +23,6 @@ pub returns-then-state-n : goal.returns-then-state-n
 returns-then-state-n c =
     let sound : StateSound c.args.started c.args.session c.args.state = tells_yes _ c.within.result c.if-not-within.false c.within.ensures in
     take_over _ _ _ _ sound c.if-not-started.false c.if-state-n.true
-
-pub overflow_add-next : goal.overflow_add-next
-overflow_add-next c =
-    search rules
 
 pub returns : goal.returns
 returns c =

@@ -28,7 +28,9 @@ first_same s d e = ap (λ (t : ℕ). two_line (ascii "accepted ") s.playing t) e
 pub put_sessions-requires : goal.put_sessions-requires
 put_sessions-requires c =
     let room : FitsAt c.args.out.now 0 (first c.args.show c.args.decision ++ rest c.args.show c.args.decision) = c.requires.fits_at in
-    let line : Put c.args.out.now 0 (first c.args.show c.args.decision) c.put_paired-next.new.out c.put_paired-next.result = answer_as (sym (first_same c.args.show c.args.decision c.requires.round_value)) (room_first _ _ room) (c.put_paired-next.ensures.out_after, c.put_paired-next.ensures.value) in
+    let line : Put c.args.out.now 0 (first c.args.show c.args.decision) c.put_paired-next.new.out c.put_paired-next.result =
+    answer_as (sym (first_same c.args.show c.args.decision c.requires.round_value)) (room_first _ _ room)
+    (c.put_paired-next.ensures.out_after, c.put_paired-next.ensures.value) in
     record {
       timed = c.requires.timed;
       fits_at = room_then _ _ room line c.put_paired-next.auto.out;
@@ -37,5 +39,7 @@ put_sessions-requires c =
 pub returns : goal.returns
 returns c =
     let room : FitsAt c.args.out.now 0 (first c.args.show c.args.decision ++ rest c.args.show c.args.decision) = c.requires.fits_at in
-    let line : Put c.args.out.now 0 (first c.args.show c.args.decision) c.put_paired-next.new.out c.put_paired-next.result = answer_as (sym (first_same c.args.show c.args.decision c.requires.round_value)) (room_first _ _ room) (c.put_paired-next.ensures.out_after, c.put_paired-next.ensures.value) in
+    let line : Put c.args.out.now 0 (first c.args.show c.args.decision) c.put_paired-next.new.out c.put_paired-next.result =
+    answer_as (sym (first_same c.args.show c.args.decision c.requires.round_value)) (room_first _ _ room)
+    (c.put_paired-next.ensures.out_after, c.put_paired-next.ensures.value) in
     put_then _ _ room line c.put_sessions.ensures

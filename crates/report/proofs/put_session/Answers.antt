@@ -5,28 +5,14 @@ use native.Mathlib.Omega.{arith}
 use borrow.Author.Rules.{rules}
 use Rattle.report.proofs.put_session.Goals as goal
 
-pub overflow_add-blocks : goal.overflow_add-blocks
-overflow_add-blocks c =
-    search rules
-
 pub overflow_mul-blocks : goal.overflow_mul-blocks
 overflow_mul-blocks c =
-    let capped : (c.args.count + 1) * c.args.block ≤ 4294967296 * 4294967295 = let n : c.args.count + 1 ≤ 4294967296 = omega arith in let a : c.args.block ≤ 4294967295 = omega arith in mul-le-mul n a in
+    let capped : (c.args.count + 1) * c.args.block ≤ 4294967296 * 4294967295 = let n : c.args.count + 1 ≤ 4294967296 = omega arith in
+    let a : c.args.block ≤ 4294967295 = omega arith in mul-le-mul n a in
     record { fits = omega (arith, capped) }
 
 pub overflow_add-buffer : goal.overflow_add-buffer
 overflow_add-buffer c =
-    let capped : (c.args.count + 1) * c.args.block ≤ 4294967296 * 4294967295 = let n : c.args.count + 1 ≤ 4294967296 = omega arith in let a : c.args.block ≤ 4294967295 = omega arith in mul-le-mul n a in
+    let capped : (c.args.count + 1) * c.args.block ≤ 4294967296 * 4294967295 = let n : c.args.count + 1 ≤ 4294967296 = omega arith in
+    let a : c.args.block ≤ 4294967295 = omega arith in mul-le-mul n a in
     record { fits = omega (arith, capped) }
-
-pub put_four-requires : goal.put_four-requires
-put_four-requires c =
-    search rules
-
-pub shape_of-out : goal.shape_of-out
-shape_of-out c =
-    search rules
-
-pub returns : goal.returns
-returns c =
-    search rules

@@ -55,7 +55,8 @@ pub loop-i-preserved : goal.loop-i-preserved
 loop-i-preserved c =
     let m = set_of c.args.counts in
     piece_put c.args.out.now c.args.at (session_lines (load_of c.args.show) m) c.args.show.playing (session_line (load_of c.args.show) m)
-    (λ i h. lines_more (load_of c.args.show) m i) c.requires.fits_at c.loop-i.out c.loop-i.i c.loop-i.next c.loop-i.invariant (omega arith) c.put_session-next.new.out c.put_session-next.result c.put_session-next.auto.out
+    (λ i h. lines_more (load_of c.args.show) m i) c.requires.fits_at c.loop-i.out c.loop-i.i c.loop-i.next c.loop-i.invariant (omega arith)
+    c.put_session-next.new.out c.put_session-next.result c.put_session-next.auto.out
     (put_as (line_made c.args.show c.args.counts c.args.times c.requires.timed c.loop-i.i (omega arith)) c.put_session-next.ensures)
 
 pub shape_of-out : goal.shape_of-out

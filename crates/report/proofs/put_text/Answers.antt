@@ -15,7 +15,8 @@ pub returns-in-Refused-verdict : goal.returns-in-Refused-verdict
 returns-in-Refused-verdict c =
     record {
       text = _;
-      holds = told_no _ c.read-got.result c.read-got.ensures c.in_default.is c.decide-decision.result _ c.decide-decision.ensures c.in-Refused-verdict.is;
+      holds = told_no _ c.read-got.result c.read-got.ensures c.in_default.is c.decide-decision.result _ c.decide-decision.ensures
+          c.in-Refused-verdict.is;
       put = c.put_refusal-in-Refused-verdict.ensures;
     }
 

@@ -14,14 +14,6 @@ returns-then-buffer-lt-TEXT_MOST c =
       len_in_bounds = omega arith;
     }
 
-pub put_text-len-requires : goal.put_text-len-requires
-put_text-len-requires c =
-    search rules
-
-pub shape_of-buffer : goal.shape_of-buffer
-shape_of-buffer c =
-    search rules
-
 pub returns : goal.returns
 returns c =
     let h = told_put _ text_most _ _ _ c.put_text-len.ensures (omega arith) in

@@ -4,10 +4,6 @@ use Rattle.run.specs.Opening.{no_run}
 use borrow.Author.Rules.{rules}
 use Rattle.run.proofs.no_run.Goals as goal
 
-pub nothing-show-requires : goal.nothing-show-requires
-nothing-show-requires c =
-    search rules
-
 pub first_run-requires : goal.first_run-requires
 first_run-requires c =
     rw c.nothing-show.ensures (omega arith)

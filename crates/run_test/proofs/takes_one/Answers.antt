@@ -4,21 +4,9 @@ use Rattle.show.proofs.Checks.{tells_yes, tells_no}
 use borrow.Author.Rules.{rules}
 use Rattle.run_test.proofs.takes_one.Goals as goal
 
-pub room-requires : goal.room-requires
-room-requires c =
-    search rules
-
 pub returns-then-not-room : goal.returns-then-not-room
 returns-then-not-room c =
     λ h. tells_no _ c.room.result c.if-not-room.true c.room.ensures h.0
-
-pub overflow_sub-block : goal.overflow_sub-block
-overflow_sub-block c =
-    search rules
-
-pub returns-then-block-state : goal.returns-then-block-state
-returns-then-block-state c =
-    search rules
 
 pub returns : goal.returns
 returns c =

@@ -112,7 +112,8 @@ pub offset_bounds-order-place : goal.offset_bounds-order-place
 offset_bounds-order-place c =
     let given : Run = c.args.run in
     let whole : Run = given in
-    let placed : AtPlace whole.order whole.counts whole.show.playing whole.place whole.left = tells_yes _ c.turns.result c.if-not-turns.false c.turns.ensures in
+    let placed : AtPlace whole.order whole.counts whole.show.playing whole.place whole.left =
+    tells_yes _ c.turns.result c.if-not-turns.false c.turns.ensures in
     let good : ShowWithin given.show × Good (load_of given.show) (set_of given.counts) = trial_good _ _ _ c.tried-trial.ensures c.in-Holds.is in
     let few : given.show.playing ≤ 16 = good.0.counts.sessions in
     let place_few : whole.place < 16 = let p = placed.inside in let h = few in omega arith in
@@ -122,7 +123,8 @@ pub bounds-order-place : goal.bounds-order-place
 bounds-order-place c =
     let given : Run = c.args.run in
     let whole : Run = given in
-    let placed : AtPlace whole.order whole.counts whole.show.playing whole.place whole.left = tells_yes _ c.turns.result c.if-not-turns.false c.turns.ensures in
+    let placed : AtPlace whole.order whole.counts whole.show.playing whole.place whole.left =
+    tells_yes _ c.turns.result c.if-not-turns.false c.turns.ensures in
     let good : ShowWithin given.show × Good (load_of given.show) (set_of given.counts) = trial_good _ _ _ c.tried-trial.ensures c.in-Holds.is in
     let few : given.show.playing ≤ 16 = good.0.counts.sessions in
     let place_few : whole.place < 16 = let p = placed.inside in let h = few in omega arith in
@@ -133,7 +135,8 @@ overflow_cast-seat c =
     let given : Run = c.args.run in
     let whole : Run = given in
     let names : NamesEach given.order given.show.playing = tells_yes _ c.names_each.result c.if-not-names_each.false c.names_each.ensures in
-    let placed : AtPlace whole.order whole.counts whole.show.playing whole.place whole.left = tells_yes _ c.turns.result c.if-not-turns.false c.turns.ensures in
+    let placed : AtPlace whole.order whole.counts whole.show.playing whole.place whole.left =
+    tells_yes _ c.turns.result c.if-not-turns.false c.turns.ensures in
     let good : ShowWithin given.show × Good (load_of given.show) (set_of given.counts) = trial_good _ _ _ c.tried-trial.ensures c.in-Holds.is in
     let few : given.show.playing ≤ 16 = good.0.counts.sessions in
     let seat_few : seat_at whole whole.place < 16 = let b = names_below _ _ names _ placed.inside in
@@ -146,7 +149,8 @@ offset_bounds-run-seat c =
     let given : Run = c.args.run in
     let whole : Run = given in
     let names : NamesEach given.order given.show.playing = tells_yes _ c.names_each.result c.if-not-names_each.false c.names_each.ensures in
-    let placed : AtPlace whole.order whole.counts whole.show.playing whole.place whole.left = tells_yes _ c.turns.result c.if-not-turns.false c.turns.ensures in
+    let placed : AtPlace whole.order whole.counts whole.show.playing whole.place whole.left =
+    tells_yes _ c.turns.result c.if-not-turns.false c.turns.ensures in
     let good : ShowWithin given.show × Good (load_of given.show) (set_of given.counts) = trial_good _ _ _ c.tried-trial.ensures c.in-Holds.is in
     let few : given.show.playing ≤ 16 = good.0.counts.sessions in
     let seat_few : seat_at whole whole.place < 16 = let b = names_below _ _ names _ placed.inside in
@@ -159,7 +163,8 @@ bounds-run-seat c =
     let given : Run = c.args.run in
     let whole : Run = given in
     let names : NamesEach given.order given.show.playing = tells_yes _ c.names_each.result c.if-not-names_each.false c.names_each.ensures in
-    let placed : AtPlace whole.order whole.counts whole.show.playing whole.place whole.left = tells_yes _ c.turns.result c.if-not-turns.false c.turns.ensures in
+    let placed : AtPlace whole.order whole.counts whole.show.playing whole.place whole.left =
+    tells_yes _ c.turns.result c.if-not-turns.false c.turns.ensures in
     let good : ShowWithin given.show × Good (load_of given.show) (set_of given.counts) = trial_good _ _ _ c.tried-trial.ensures c.in-Holds.is in
     let few : given.show.playing ≤ 16 = good.0.counts.sessions in
     let seat_few : seat_at whole whole.place < 16 = let b = names_below _ _ names _ placed.inside in
@@ -172,7 +177,8 @@ offset_bounds-show-seat c =
     let given : Run = c.args.run in
     let whole : Run = given in
     let names : NamesEach given.order given.show.playing = tells_yes _ c.names_each.result c.if-not-names_each.false c.names_each.ensures in
-    let placed : AtPlace whole.order whole.counts whole.show.playing whole.place whole.left = tells_yes _ c.turns.result c.if-not-turns.false c.turns.ensures in
+    let placed : AtPlace whole.order whole.counts whole.show.playing whole.place whole.left =
+    tells_yes _ c.turns.result c.if-not-turns.false c.turns.ensures in
     let good : ShowWithin given.show × Good (load_of given.show) (set_of given.counts) = trial_good _ _ _ c.tried-trial.ensures c.in-Holds.is in
     let few : given.show.playing ≤ 16 = good.0.counts.sessions in
     let seat_few : seat_at whole whole.place < 16 = let b = names_below _ _ names _ placed.inside in
@@ -185,7 +191,8 @@ bounds-show-seat c =
     let given : Run = c.args.run in
     let whole : Run = given in
     let names : NamesEach given.order given.show.playing = tells_yes _ c.names_each.result c.if-not-names_each.false c.names_each.ensures in
-    let placed : AtPlace whole.order whole.counts whole.show.playing whole.place whole.left = tells_yes _ c.turns.result c.if-not-turns.false c.turns.ensures in
+    let placed : AtPlace whole.order whole.counts whole.show.playing whole.place whole.left =
+    tells_yes _ c.turns.result c.if-not-turns.false c.turns.ensures in
     let good : ShowWithin given.show × Good (load_of given.show) (set_of given.counts) = trial_good _ _ _ c.tried-trial.ensures c.in-Holds.is in
     let few : given.show.playing ≤ 16 = good.0.counts.sessions in
     let seat_few : seat_at whole whole.place < 16 = let b = names_below _ _ names _ placed.inside in
@@ -198,7 +205,8 @@ returns c =
     let given : Run = c.args.run in
     let good : ShowWithin given.show × Good (load_of given.show) (set_of given.counts) = trial_good _ _ _ c.tried-trial.ensures c.in-Holds.is in
     let whole : Run = given in
-    let placed : AtPlace whole.order whole.counts whole.show.playing whole.place whole.left = tells_yes _ c.turns.result c.if-not-turns.false c.turns.ensures in
+    let placed : AtPlace whole.order whole.counts whole.show.playing whole.place whole.left =
+    tells_yes _ c.turns.result c.if-not-turns.false c.turns.ensures in
     let names : NamesEach given.order given.show.playing = tells_yes _ c.names_each.result c.if-not-names_each.false c.names_each.ensures in
     let g = good in
     let states = states_all _ _ c.loop-i.invariant c.loop-i-test.false in

@@ -6,10 +6,6 @@ use Rattle.showfile.proofs.Sizes.{note_part}
 use borrow.Author.Rules.{rules}
 use Rattle.showfile.proofs.note.Goals as goal
 
-pub read-got-requires : goal.read-got-requires
-read-got-requires c =
-    search rules
-
 pub slice_bounds-result-end : goal.slice_bounds-result-end
 slice_bounds-result-end c =
     note_part _ c.read-got.ensures

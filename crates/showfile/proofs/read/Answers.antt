@@ -14,25 +14,30 @@ returns-then-not-length_within c =
 
 pub overflow_sub-at : goal.overflow_sub-at
 overflow_sub-at c =
-    let size : Between file_least (length c.args.file.now) file_most = tells_yes _ c.length_within.result c.if-not-length_within.false c.length_within.ensures in
+    let size : Between file_least (length c.args.file.now) file_most =
+    tells_yes _ c.length_within.result c.if-not-length_within.false c.length_within.ensures in
     size.low
 
 pub get_trailer-t-requires : goal.get_trailer-t-requires
 get_trailer-t-requires c =
-    let size : Between file_least (length c.args.file.now) file_most = tells_yes _ c.length_within.result c.if-not-length_within.false c.length_within.ensures in
+    let size : Between file_least (length c.args.file.now) file_most =
+    tells_yes _ c.length_within.result c.if-not-length_within.false c.length_within.ensures in
     let s = size in omega arith
 
 pub returns-in-Refused : goal.returns-in-Refused
 returns-in-Refused c =
-    let size : Between file_least (length c.args.file.now) file_most = tells_yes _ c.length_within.result c.if-not-length_within.false c.length_within.ensures in
+    let size : Between file_least (length c.args.file.now) file_most =
+    tells_yes _ c.length_within.result c.if-not-length_within.false c.length_within.ensures in
     c.refused-in-Refused.ensures ∙ read_trailer _ size _ c.get_trailer-t.ensures (sym c.check-check.ensures ∙ c.in-Refused.is)
 
 pub read_limits-requires : goal.read_limits-requires
 read_limits-requires c =
-    let size : Between file_least (length c.args.file.now) file_most = tells_yes _ c.length_within.result c.if-not-length_within.false c.length_within.ensures in
+    let size : Between file_least (length c.args.file.now) file_most =
+    tells_yes _ c.length_within.result c.if-not-length_within.false c.length_within.ensures in
     let s = size in (omega arith, sym c.check-check.ensures ∙ c.in_default.is)
 
 pub returns : goal.returns
 returns c =
-    let size : Between file_least (length c.args.file.now) file_most = tells_yes _ c.length_within.result c.if-not-length_within.false c.length_within.ensures in
+    let size : Between file_least (length c.args.file.now) file_most =
+    tells_yes _ c.length_within.result c.if-not-length_within.false c.length_within.ensures in
     c.read_limits.ensures ∙ read_rest _ size _ c.get_trailer-t.ensures (sym c.check-check.ensures ∙ c.in_default.is)

@@ -14,4 +14,5 @@ slice_bounds-write-end c =
 
 pub returns : goal.returns
 returns c =
-    let pair = copy_answers _ _ c.read-got.ensures (λ i. (c.shared_slice_known-1.given i).fits) c.in_default.is c.write.ensures.value c.write.ensures.buffer_after in record { value = pair.0; buffer_after = pair.1 }
+    let pair = copy_answers _ _ c.read-got.ensures (λ i. (c.shared_slice_known-1.given i).fits) c.in_default.is c.write.ensures.value
+    c.write.ensures.buffer_after in record { value = pair.0; buffer_after = pair.1 }

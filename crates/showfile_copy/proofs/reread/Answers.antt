@@ -27,6 +27,7 @@ returns c =
     let layouts_eight : length c.args.show.layouts ≡ 8 = search (unmapped, rules) in
     let sessions_sixteen : length c.args.show.sessions ≡ 16 = search (unmapped, rules) in
     record {
-      value = c.read.ensures ∙ reread_answers _ _ _ c.write-wrote.ensures.value c.write-wrote.ensures.buffer_after c.in_default.is layouts_eight sessions_sixteen;
+      value = c.read.ensures ∙ reread_answers _ _ _ c.write-wrote.ensures.value c.write-wrote.ensures.buffer_after c.in_default.is layouts_eight
+          sessions_sixteen;
       buffer_after = c.write-wrote.ensures.buffer_after;
     }

@@ -20,12 +20,14 @@ returns-then-not-counts_within c =
 
 pub returns-then-note-gt-NOTE_MOST : goal.returns-then-note-gt-NOTE_MOST
 returns-then-note-gt-NOTE_MOST c =
-    let counts : CountsWithin c.args.show.laid c.args.show.playing = tells_yes _ c.counts_within.result c.if-not-counts_within.false c.counts_within.ensures in
+    let counts : CountsWithin c.args.show.laid c.args.show.playing =
+    tells_yes _ c.counts_within.result c.if-not-counts_within.false c.counts_within.ensures in
     write_note _ _ _ counts (λ h. omega arith)
 
 pub returns-in-Refused : goal.returns-in-Refused
 returns-in-Refused c =
-    let counts : CountsWithin c.args.show.laid c.args.show.playing = tells_yes _ c.counts_within.result c.if-not-counts_within.false c.counts_within.ensures in
+    let counts : CountsWithin c.args.show.laid c.args.show.playing =
+    tells_yes _ c.counts_within.result c.if-not-counts_within.false c.counts_within.ensures in
     let short : length c.args.note.now ≤ note_most = omega arith in
     write_limits _ _ _ counts short (sym c.check-check.ensures ∙ c.in-Refused.is)
 

@@ -5,7 +5,8 @@ use Rattle.showfile_write.proofs.write.Goals as goal
 
 pub returns-in-Refused : goal.returns-in-Refused
 returns-in-Refused c =
-    let pair = filed_refused _ _ _ c.unwritten.ensures (sym c.check_write-check.ensures ∙ c.in-Refused.is) in record { value = pair.0; buffer_after = pair.1 }
+    let pair = filed_refused _ _ _ c.unwritten.ensures (sym c.check_write-check.ensures ∙ c.in-Refused.is) in
+    record { value = pair.0; buffer_after = pair.1 }
 
 pub put_file-len-requires : goal.put_file-len-requires
 put_file-len-requires c =
@@ -13,4 +14,5 @@ put_file-len-requires c =
 
 pub returns : goal.returns
 returns c =
-    let pair = filed_within _ _ _ (sym c.check_write-check.ensures ∙ c.in_default.is) c.put_file-len.ensures.value c.put_file-len.ensures.buffer_after in record { value = pair.0; buffer_after = pair.1 }
+    let pair = filed_within _ _ _ (sym c.check_write-check.ensures ∙ c.in_default.is) c.put_file-len.ensures.value c.put_file-len.ensures.buffer_after
+    in record { value = pair.0; buffer_after = pair.1 }

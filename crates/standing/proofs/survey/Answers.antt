@@ -5,10 +5,6 @@ use Rattle.order.proofs.Orders.{placed_few}
 use borrow.Author.Rules.{rules}
 use Rattle.standing.proofs.survey.Goals as goal
 
-pub tried-trial-requires : goal.tried-trial-requires
-tried-trial-requires c =
-    search rules
-
 pub aheads-aheads-requires : goal.aheads-aheads-requires
 aheads-aheads-requires c =
     c.requires

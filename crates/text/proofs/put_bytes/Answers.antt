@@ -30,7 +30,8 @@ bounds-word-i c =
 
 pub put_byte-next-requires : goal.put_byte-next-requires
 put_byte-next-requires c =
-    piece_room c.args.out.now c.args.at _ _ (one_byte c.args.word.now) (more c.args.word.now) (whole c.args.word.now (c.requires)) c.loop-i.out c.loop-i.i c.loop-i.next
+    piece_room c.args.out.now c.args.at _ _ (one_byte c.args.word.now) (more c.args.word.now) (whole c.args.word.now (c.requires)) c.loop-i.out
+    c.loop-i.i c.loop-i.next
     c.loop-i.invariant (omega arith)
 
 pub overflow_add-i : goal.overflow_add-i
@@ -43,7 +44,8 @@ loop-i-smaller c =
 
 pub loop-i-preserved : goal.loop-i-preserved
 loop-i-preserved c =
-    piece_put c.args.out.now c.args.at _ _ (one_byte c.args.word.now) (more c.args.word.now) (whole c.args.word.now (c.requires)) c.loop-i.out c.loop-i.i c.loop-i.next
+    piece_put c.args.out.now c.args.at _ _ (one_byte c.args.word.now) (more c.args.word.now) (whole c.args.word.now (c.requires)) c.loop-i.out
+    c.loop-i.i c.loop-i.next
     c.loop-i.invariant (omega arith)
     c.put_byte-next.new.out c.put_byte-next.result c.put_byte-next.auto.out c.put_byte-next.ensures
 

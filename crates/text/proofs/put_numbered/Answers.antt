@@ -16,7 +16,8 @@ three_length t u v = simp length-append
 pub returns-then-not-fits : goal.returns-then-not-fits
 returns-then-not-fits c =
     let f = tells_no _ c.fits.result c.if-not-fits.true c.fits.ensures in
-    let pair = no_room _ _ _ (λ h. f (omega (arith, h, three_length c.args.before.now (decimal c.args.n) c.args.after.now))) in record { out_after = pair.0; value = pair.1 }
+    let pair = no_room _ _ _ (λ h. f (omega (arith, h, three_length c.args.before.now (decimal c.args.n) c.args.after.now))) in
+    record { out_after = pair.0; value = pair.1 }
 
 pub put_bytes-number-requires : goal.put_bytes-number-requires
 put_bytes-number-requires c =
@@ -32,7 +33,8 @@ put_decimal-end-requires c =
     let front : List ℕ = c.args.before.now in
     let room : FitsAt c.args.out.now c.args.at (front ++ rest) = let f = tells_yes _ c.fits.result c.if-not-fits.false c.fits.ensures in
     record { fits = omega (arith, three_length c.args.before.now (decimal c.args.n) c.args.after.now) } in
-    let room_number : FitsAt c.put_bytes-number.new.out c.put_bytes-number.result rest = room_then front rest room c.put_bytes-number.ensures c.put_bytes-number.auto.out in
+    let room_number : FitsAt c.put_bytes-number.new.out c.put_bytes-number.result rest =
+    room_then front rest room c.put_bytes-number.ensures c.put_bytes-number.auto.out in
     record {
       fits_at = room_first (decimal c.args.n) c.args.after.now room_number;
       digits_value = c.width-digits.ensures;
@@ -44,7 +46,8 @@ put_bytes-requires c =
     let front : List ℕ = c.args.before.now in
     let room : FitsAt c.args.out.now c.args.at (front ++ rest) = let f = tells_yes _ c.fits.result c.if-not-fits.false c.fits.ensures in
     record { fits = omega (arith, three_length c.args.before.now (decimal c.args.n) c.args.after.now) } in
-    let room_number : FitsAt c.put_bytes-number.new.out c.put_bytes-number.result rest = room_then front rest room c.put_bytes-number.ensures c.put_bytes-number.auto.out in
+    let room_number : FitsAt c.put_bytes-number.new.out c.put_bytes-number.result rest =
+    room_then front rest room c.put_bytes-number.ensures c.put_bytes-number.auto.out in
     room_then (decimal c.args.n) c.args.after.now room_number c.put_decimal-end.ensures c.put_decimal-end.auto.out
 
 pub returns : goal.returns
@@ -53,7 +56,9 @@ returns c =
     let rest : List ℕ = decimal c.args.n ++ c.args.after.now in
     let room : FitsAt c.args.out.now c.args.at (front ++ rest) = let f = tells_yes _ c.fits.result c.if-not-fits.false c.fits.ensures in
     record { fits = omega (arith, three_length c.args.before.now (decimal c.args.n) c.args.after.now) } in
-    let room_number : FitsAt c.put_bytes-number.new.out c.put_bytes-number.result rest = room_then front rest room c.put_bytes-number.ensures c.put_bytes-number.auto.out in
+    let room_number : FitsAt c.put_bytes-number.new.out c.put_bytes-number.result rest =
+    room_then front rest room c.put_bytes-number.ensures c.put_bytes-number.auto.out in
     let pair = put_answers room
     (put_then front rest room c.put_bytes-number.ensures
-    (put_then (decimal c.args.n) c.args.after.now room_number c.put_decimal-end.ensures c.put_bytes.ensures)) in record { out_after = pair.0; value = pair.1 }
+    (put_then (decimal c.args.n) c.args.after.now room_number c.put_decimal-end.ensures c.put_bytes.ensures)) in
+    record { out_after = pair.0; value = pair.1 }

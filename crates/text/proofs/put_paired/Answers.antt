@@ -63,5 +63,6 @@ returns c =
     let room : FitsAt c.args.out.now c.args.at whole = let f = tells_yes _ c.fits-2.result c.if-not-fits-2.false c.fits-2.ensures in
     record { fits = omega (arith, long) } in
     let pair = put_answers room
-    (pair_put c.args.before.now c.args.a c.args.between.now c.args.b c.args.after.now room c.put_numbered-next.auto.out (c.put_numbered-next.ensures.out_after, c.put_numbered-next.ensures.value)
+    (pair_put c.args.before.now c.args.a c.args.between.now c.args.b c.args.after.now room c.put_numbered-next.auto.out
+    (c.put_numbered-next.ensures.out_after, c.put_numbered-next.ensures.value)
     (c.put_numbered.ensures.out_after, c.put_numbered.ensures.value)) in record { out_after = pair.0; value = pair.1 }

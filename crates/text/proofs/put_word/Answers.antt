@@ -5,10 +5,6 @@ use Rattle.show.proofs.Checks.{tells_yes, tells_no}
 use Rattle.text.proofs.Puts.{put_answers, no_room}
 use Rattle.text.proofs.put_word.Goals as goal
 
-pub fits-requires : goal.fits-requires
-fits-requires c =
-    search rules
-
 pub returns-then-not-fits : goal.returns-then-not-fits
 returns-then-not-fits c =
     let f = tells_no _ c.fits.result c.if-not-fits.true c.fits.ensures in

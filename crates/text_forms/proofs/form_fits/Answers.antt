@@ -61,7 +61,8 @@ overflow_add-used c =
 
 pub loop-i-preserved : goal.loop-i-preserved
 loop-i-preserved c =
-    body _ _ _ _ _ _ _ c.loop-i.invariant c.piece_size-size.result c.piece_size-size.ensures (omega arith) c.marks-used.result (omega arith) c.marks-used.ensures.value c.marks-used.ensures.upper_bound
+    body _ _ _ _ _ _ _ c.loop-i.invariant c.piece_size-size.result c.piece_size-size.ensures (omega arith) c.marks-used.result (omega arith)
+    c.marks-used.ensures.value c.marks-used.ensures.upper_bound
 
 pub returns : goal.returns
 returns c =

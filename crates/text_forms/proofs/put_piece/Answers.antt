@@ -9,7 +9,8 @@ use Rattle.text_forms.proofs.put_piece.Goals as goal
 
 pub returns-then-b-ne35 : goal.returns-then-b-ne35
 returns-then-b-ne35 c =
-    answer_as (piece_byte c.args.b c.args.numbers.now c.args.used c.if-b-ne35.true) c.requires (c.put_word.ensures.out_after, c.put_word.ensures.value)
+    answer_as (piece_byte c.args.b c.args.numbers.now c.args.used c.if-b-ne35.true) c.requires
+    (c.put_word.ensures.out_after, c.put_word.ensures.value)
 
 pub returns-then-numbers-used : goal.returns-then-numbers-used
 returns-then-numbers-used c =

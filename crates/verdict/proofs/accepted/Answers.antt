@@ -41,7 +41,8 @@ bounds-show-at c =
 
 pub overflow_cast-count : goal.overflow_cast-count
 overflow_cast-count c =
-    let small : c.asks-count.result < count_most = rw c.asks-count.ensures (feasible_few _ c.requires.show_within _ c.requires.settled.fits _ c.loop-i-test.true) in
+    let small : c.asks-count.result < count_most =
+    rw c.asks-count.ensures (feasible_few _ c.requires.show_within _ c.requires.settled.fits _ c.loop-i-test.true) in
     omega (arith, small)
 
 pub takes-time-requires : goal.takes-time-requires
@@ -50,7 +51,8 @@ takes-time-requires c =
 
 pub overflow_cast-counts : goal.overflow_cast-counts
 overflow_cast-counts c =
-    let small : c.asks-count.result < count_most = rw c.asks-count.ensures (feasible_few _ c.requires.show_within _ c.requires.settled.fits _ c.loop-i-test.true) in
+    let small : c.asks-count.result < count_most =
+    rw c.asks-count.ensures (feasible_few _ c.requires.show_within _ c.requires.settled.fits _ c.loop-i-test.true) in
     omega (arith, small)
 
 pub offset_bounds-counts-i : goal.offset_bounds-counts-i
@@ -85,7 +87,8 @@ loop-i-smaller c =
 pub loop-i-preserved : goal.loop-i-preserved
 loop-i-preserved c = (
   row_body _ _ _ _ _ c.requires.show_within c.loop-i.invariant.0 c.loop-i-test.true c.asks-count.ensures,
-  times_body _ _ _ _ _ _ c.requires.show_within c.loop-i.invariant.1 c.loop-i-test.true (c.takes-time.ensures.0 ∙ time_same _ _ _ ∙ ap ((load_of _).stream _).time c.asks-count.ensures) c.takes-time.ensures.1,
+  times_body _ _ _ _ _ _ c.requires.show_within c.loop-i.invariant.1 c.loop-i-test.true
+      (c.takes-time.ensures.0 ∙ time_same _ _ _ ∙ ap ((load_of _).stream _).time c.asks-count.ensures) c.takes-time.ensures.1,
 )
 
 pub returns : goal.returns

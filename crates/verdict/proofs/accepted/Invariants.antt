@@ -7,7 +7,8 @@ use Rattle.verdict.proofs.Sets.{Filled, TimedTo}
 use Rattle.verdict.proofs.accepted.Given as goal
 
 abbrev pub invariant-loop-i : goal.invariant-loop-i
-invariant-loop-i l = (Filled l.show (asked (load_of l.show) l.t) l.counts l.i) × (TimedTo l.show (λ k. ((load_of l.show).stream k).time (asked (load_of l.show) l.t k)) l.round l.times l.i)
+invariant-loop-i l = (Filled l.show (asked (load_of l.show) l.t) l.counts l.i)
+    × (TimedTo l.show (λ k. ((load_of l.show).stream k).time (asked (load_of l.show) l.t k)) l.round l.times l.i)
 
 abbrev pub decreases-loop-i : goal.decreases-loop-i
 decreases-loop-i l = l.show.playing - l.i

@@ -14,21 +14,24 @@ pub overflow_sub-bytes : goal.overflow_sub-bytes
 overflow_sub-bytes c =
     let put_is : to_z w64 c.args.state.put ≡ pos c.args.state.put = to_z_pos w64 (omega arith) in
     let cushion_is : to_z w64 c.args.session.cushion ≡ pos c.args.session.cushion = to_z_pos w64 (omega arith) in
-    let fits : AheadFits c.args.state.put c.args.session.cushion c.args.state.clock = ahead_fits _ _ _ c.requires.put_le_put_most.0 (omega arith) c.requires.put_le_put_most.1 in
+    let fits : AheadFits c.args.state.put c.args.session.cushion c.args.state.clock =
+    ahead_fits _ _ _ c.requires.put_le_put_most.0 (omega arith) c.requires.put_le_put_most.1 in
     rw (put_is, cushion_is) fits.bytes
 
 pub overflow_mul-microbytes : goal.overflow_mul-microbytes
 overflow_mul-microbytes c =
     let put_is : to_z w64 c.args.state.put ≡ pos c.args.state.put = to_z_pos w64 (omega arith) in
     let cushion_is : to_z w64 c.args.session.cushion ≡ pos c.args.session.cushion = to_z_pos w64 (omega arith) in
-    let fits : AheadFits c.args.state.put c.args.session.cushion c.args.state.clock = ahead_fits _ _ _ c.requires.put_le_put_most.0 (omega arith) c.requires.put_le_put_most.1 in
+    let fits : AheadFits c.args.state.put c.args.session.cushion c.args.state.clock =
+    ahead_fits _ _ _ c.requires.put_le_put_most.0 (omega arith) c.requires.put_le_put_most.1 in
     rw (put_is, cushion_is, to_z-of_z fits.bytes) fits.scaled
 
 pub overflow_sub-microbytes : goal.overflow_sub-microbytes
 overflow_sub-microbytes c =
     let put_is : to_z w64 c.args.state.put ≡ pos c.args.state.put = to_z_pos w64 (omega arith) in
     let cushion_is : to_z w64 c.args.session.cushion ≡ pos c.args.session.cushion = to_z_pos w64 (omega arith) in
-    let fits : AheadFits c.args.state.put c.args.session.cushion c.args.state.clock = ahead_fits _ _ _ c.requires.put_le_put_most.0 (omega arith) c.requires.put_le_put_most.1 in
+    let fits : AheadFits c.args.state.put c.args.session.cushion c.args.state.clock =
+    ahead_fits _ _ _ c.requires.put_le_put_most.0 (omega arith) c.requires.put_le_put_most.1 in
     let clock_is : to_z w64 c.args.state.clock ≡ pos c.args.state.clock = to_z_pos w64 (omega arith) in
     rw (put_is, cushion_is, to_z-of_z fits.bytes, to_z-of_z fits.scaled, clock_is) fits.whole
 
@@ -36,7 +39,8 @@ pub returns : goal.returns
 returns c =
     let put_is : to_z w64 c.args.state.put ≡ pos c.args.state.put = to_z_pos w64 (omega arith) in
     let cushion_is : to_z w64 c.args.session.cushion ≡ pos c.args.session.cushion = to_z_pos w64 (omega arith) in
-    let fits : AheadFits c.args.state.put c.args.session.cushion c.args.state.clock = ahead_fits _ _ _ c.requires.put_le_put_most.0 (omega arith) c.requires.put_le_put_most.1 in
+    let fits : AheadFits c.args.state.put c.args.session.cushion c.args.state.clock =
+    ahead_fits _ _ _ c.requires.put_le_put_most.0 (omega arith) c.requires.put_le_put_most.1 in
     let clock_is : to_z w64 c.args.state.clock ≡ pos c.args.state.clock = to_z_pos w64 (omega arith) in
     let b : to_z w64 (of_z w64 c.floor_div.result) ≡ c.floor_div.result = search rules in
     let e = rw (put_is, cushion_is, to_z-of_z fits.bytes, to_z-of_z fits.scaled, clock_is, to_z-of_z fits.whole) at c.floor_div.ensures in

@@ -15,4 +15,5 @@ pub returns : goal.returns
 returns c =
     let room : FitsAt c.args.out.now 0 (beyond_text c.args.tenths) = reason_room _ c.requires Beyond c.args.tenths in
     let whole = room in
-    put_then _ _ whole c.put_load-most.ensures (room_put (room_then _ _ whole c.put_load-most.ensures c.put_load-most.auto.out) c.put_numbered.ensures.out_after c.put_numbered.ensures.value)
+    put_then _ _ whole c.put_load-most.ensures (room_put (room_then _ _ whole c.put_load-most.ensures c.put_load-most.auto.out)
+    c.put_numbered.ensures.out_after c.put_numbered.ensures.value)

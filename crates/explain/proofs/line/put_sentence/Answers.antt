@@ -77,4 +77,7 @@ returns-in-7 c =
     arm c.args.told 7 _ _ _ _ _ c.put_clip.ensures.out_after c.put_clip.ensures.value c.in-7.is refl c.requires
 
 pub returns-in_default : goal.returns-in_default
-returns-in_default c = last c.args.told _ _ _ _ c.put_word-in_default.ensures.out_after c.put_word-in_default.ensures.value (((((((tt, λ e. omega arith), λ e. omega arith), λ e. omega arith), λ e. omega arith), λ e. omega arith), λ e. omega arith), λ e. omega arith) c.requires
+returns-in_default c =
+    last c.args.told _ _ _ _ c.put_word-in_default.ensures.out_after c.put_word-in_default.ensures.value
+    (((((((tt, λ e. omega arith), λ e. omega arith), λ e. omega arith), λ e. omega arith), λ e. omega arith), λ e. omega arith), λ e. omega arith)
+    c.requires

@@ -4,18 +4,6 @@ use Rattle.parse_numbers.proofs.Pairs.{byte_small, zero_none, zero_is}
 use borrow.Author.Rules.{rules}
 use Rattle.parse_numbers.proofs.digits.byte.Goals as goal
 
-pub pair-found-requires : goal.pair-found-requires
-pair-found-requires c =
-    search rules
-
-pub enum_known-found : goal.enum_known-found
-enum_known-found c =
-    search rules
-
-pub enum_told-1 : goal.enum_told-1
-enum_told-1 c =
-    search rules
-
 pub returns-in_default : goal.returns-in_default
 returns-in_default c =
     zero_none _ (sym c.pair-found.ensures ∙ c.in_default.is)

@@ -11,14 +11,6 @@ pub returns-then-most-b : goal.returns-then-most-b
 returns-then-most-b c =
     counted_high _ _ _ _ _ c.if-b-least.false c.if-most-b.true
 
-pub overflow_cast-place : goal.overflow_cast-place
-overflow_cast-place c =
-    search rules
-
-pub overflow_add-place : goal.overflow_add-place
-overflow_add-place c =
-    search rules
-
 pub returns : goal.returns
 returns c =
     counted_within _ _ _ _ _ c.if-b-least.false c.if-most-b.false

@@ -3,10 +3,6 @@ use Rattle.playback.proofs.Cycles.{left_fewer, left_fresh}
 use borrow.Author.Rules.{rules}
 use Rattle.playback.proofs.cycle.count_off.Goals as goal
 
-pub overflow_sub-result : goal.overflow_sub-result
-overflow_sub-result c =
-    search rules
-
 pub returns-then-left-gt1 : goal.returns-then-left-gt1
 returns-then-left-gt1 c =
     left_fewer _ _ c.if-left-gt1.true

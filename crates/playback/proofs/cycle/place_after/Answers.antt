@@ -7,10 +7,6 @@ pub returns-then-left-gt1 : goal.returns-then-left-gt1
 returns-then-left-gt1 c =
     place_stays _ _ _ c.if-left-gt1.true
 
-pub overflow_add-next : goal.overflow_add-next
-overflow_add-next c =
-    search rules
-
 pub returns-then-next-playing : goal.returns-then-next-playing
 returns-then-next-playing c =
     place_on _ _ _ c.if-left-gt1.false c.if-next-playing.true

@@ -10,11 +10,6 @@ use Rattle.showfile.proofs.ByteLaws.{over_nothing}
 use Rattle.showfile_write.proofs.ByteLaws.{copied_more}
 use Rattle.showfile_write.proofs.bytes.put_bytes.Goals as goal
 
--- LEFT: no goal same-length
--- same_length : tie.Need-same-length invariant_loop decreases_loop
--- same_length c = omega arith
---
-
 pub loop-i-init : goal.loop-i-init
 loop-i-init c =
     (omega arith, refl, over_nothing _ _)
@@ -36,8 +31,12 @@ loop-i-smaller c =
     omega arith
 
 pub loop-i-preserved : goal.loop-i-preserved
-loop-i-preserved c =
-    (omega arith, simp length-set (omega arith), copied_more c.args.b.now c.loop-i.b c.args.from.now c.loop-i.i (omega arith) (omega arith) c.loop-i.invariant.2)
+loop-i-preserved c = (
+  omega arith,
+  simp length-set (omega arith),
+  copied_more c.args.b.now c.loop-i.b c.args.from.now c.loop-i.i (omega arith) (omega arith)
+      c.loop-i.invariant.2,
+)
 
 pub returns : goal.returns
 returns c =

@@ -6,27 +6,6 @@ use Rattle.showfile_write.proofs.ByteLaws.{two_over}
 use borrow.Author.Rules.{rules}
 use Rattle.showfile_write.proofs.bytes.put_half.Goals as goal
 
--- LEFT: no goal same-length
--- same_length : tie.Need-same-length
--- same_length c = search rules
---
-
-pub overflow_cast-b : goal.overflow_cast-b
-overflow_cast-b c =
-    search rules
-
-pub bounds-b-at : goal.bounds-b-at
-bounds-b-at c =
-    search rules
-
-pub overflow_cast-b-2 : goal.overflow_cast-b-2
-overflow_cast-b-2 c =
-    search rules
-
-pub overflow_add-b : goal.overflow_add-b
-overflow_add-b c =
-    search rules
-
 pub bounds-b-at-2 : goal.bounds-b-at-2
 bounds-b-at-2 c =
     simp length-set (omega arith)

@@ -26,7 +26,8 @@ offset_bounds-seats-place c =
 
 pub returns-then-seat-i : goal.returns-then-seat-i
 returns-then-seat-i c =
-    let seated : c.ordered-seats.result ≡ named (place_in c.args.places) c.args.playing (replicate 16 0) = c.ordered-seats.ensures ∙ ordered_few _ _ _ c.requires.0 in
+    let seated : c.ordered-seats.result ≡ named (place_in c.args.places) c.args.playing (replicate 16 0) =
+    c.ordered-seats.ensures ∙ ordered_few _ _ _ c.requires.0 in
     λ a.
     (let all = apart_found c.args.places (replicate 16 0) c.args.playing (rw (length-replicate {A = ℕ} 16 0) c.requires.0) c.requires.1 a in
     let e = all _ c.loop-i-test.true in
@@ -47,6 +48,7 @@ loop-i-preserved c =
 
 pub returns : goal.returns
 returns c =
-    let seated : c.ordered-seats.result ≡ named (place_in c.args.places) c.args.playing (replicate 16 0) = c.ordered-seats.ensures ∙ ordered_few _ _ _ c.requires.0 in
+    let seated : c.ordered-seats.result ≡ named (place_in c.args.places) c.args.playing (replicate 16 0) =
+    c.ordered-seats.ensures ∙ ordered_few _ _ _ c.requires.0 in
     found_apart c.args.places (replicate 16 0) c.args.playing (rw (length-replicate {A = ℕ} 16 0) c.requires.0) c.requires.1
     (λ i m. ap (λ (o : List ℕ). get_or o (place_in c.args.places i) 0) (sym seated) ∙ c.loop-i.invariant.0 i (omega arith))

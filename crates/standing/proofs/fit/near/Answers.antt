@@ -14,4 +14,5 @@ returns-then-ahead-ge4611686018427387904 c =
 pub returns : goal.returns
 returns c =
     let f = to_z-of_z c.ranges.ahead in
-    near_between 4611686018427387903 c.args.ahead (rw f at c.if-ahead-ltminus4611686018427387904.false) (rw f at c.if-ahead-ge4611686018427387904.false)
+    near_between 4611686018427387903 c.args.ahead (rw f at c.if-ahead-ltminus4611686018427387904.false)
+    (rw f at c.if-ahead-ge4611686018427387904.false)

@@ -19,7 +19,9 @@ pub offset_bounds-s-first : goal.offset_bounds-s-first
 offset_bounds-s-first c =
     let given : Standing = c.args.s in
     let seated : ℕ → ℕ = λ k. seat_in c.ordered-seats.result k in
-    let seats : Seated (place_in given.places) seated given.playing = named_seats (place_in given.places) given.playing _ c.requires.fit.few c.requires.fit.below c.requires.fit.apart _ (c.ordered-seats.ensures ∙ ordered_few _ _ _ c.requires.fit.few) in
+    let seats : Seated (place_in given.places) seated given.playing =
+    named_seats (place_in given.places) given.playing _ c.requires.fit.few c.requires.fit.below c.requires.fit.apart _
+    (c.ordered-seats.ensures ∙ ordered_few _ _ _ c.requires.fit.few) in
     let few : (k : ℕ) → k < given.playing → seated k < 16 = λ k l. let i = seats.inside k l in omega arith in
     let l = few 0 c.requires.playing_nonzero in omega arith
 
@@ -27,7 +29,9 @@ pub bounds-s-first : goal.bounds-s-first
 bounds-s-first c =
     let given : Standing = c.args.s in
     let seated : ℕ → ℕ = λ k. seat_in c.ordered-seats.result k in
-    let seats : Seated (place_in given.places) seated given.playing = named_seats (place_in given.places) given.playing _ c.requires.fit.few c.requires.fit.below c.requires.fit.apart _ (c.ordered-seats.ensures ∙ ordered_few _ _ _ c.requires.fit.few) in
+    let seats : Seated (place_in given.places) seated given.playing =
+    named_seats (place_in given.places) given.playing _ c.requires.fit.few c.requires.fit.below c.requires.fit.apart _
+    (c.ordered-seats.ensures ∙ ordered_few _ _ _ c.requires.fit.few) in
     let few : (k : ℕ) → k < given.playing → seated k < 16 = λ k l. let i = seats.inside k l in omega arith in
     few 0 c.requires.playing_nonzero
 
@@ -35,7 +39,9 @@ pub offset_bounds-s-first-2 : goal.offset_bounds-s-first-2
 offset_bounds-s-first-2 c =
     let given : Standing = c.args.s in
     let seated : ℕ → ℕ = λ k. seat_in c.ordered-seats.result k in
-    let seats : Seated (place_in given.places) seated given.playing = named_seats (place_in given.places) given.playing _ c.requires.fit.few c.requires.fit.below c.requires.fit.apart _ (c.ordered-seats.ensures ∙ ordered_few _ _ _ c.requires.fit.few) in
+    let seats : Seated (place_in given.places) seated given.playing =
+    named_seats (place_in given.places) given.playing _ c.requires.fit.few c.requires.fit.below c.requires.fit.apart _
+    (c.ordered-seats.ensures ∙ ordered_few _ _ _ c.requires.fit.few) in
     let few : (k : ℕ) → k < given.playing → seated k < 16 = λ k l. let i = seats.inside k l in omega arith in
     let l = few 0 c.requires.playing_nonzero in omega arith
 
@@ -43,7 +49,9 @@ pub bounds-s-first-2 : goal.bounds-s-first-2
 bounds-s-first-2 c =
     let given : Standing = c.args.s in
     let seated : ℕ → ℕ = λ k. seat_in c.ordered-seats.result k in
-    let seats : Seated (place_in given.places) seated given.playing = named_seats (place_in given.places) given.playing _ c.requires.fit.few c.requires.fit.below c.requires.fit.apart _ (c.ordered-seats.ensures ∙ ordered_few _ _ _ c.requires.fit.few) in
+    let seats : Seated (place_in given.places) seated given.playing =
+    named_seats (place_in given.places) given.playing _ c.requires.fit.few c.requires.fit.below c.requires.fit.apart _
+    (c.ordered-seats.ensures ∙ ordered_few _ _ _ c.requires.fit.few) in
     let few : (k : ℕ) → k < given.playing → seated k < 16 = λ k l. let i = seats.inside k l in omega arith in
     few 0 c.requires.playing_nonzero
 
@@ -53,8 +61,13 @@ net-least-requires c =
     let seated : ℕ → ℕ = λ k. seat_in c.ordered-seats.result k in
     let first : ℤ = ahead_in given.aheads (seated 0) in
     let first_ahead : to_z w64 (of_z w64 first) ≡ first = to_z-of_z {w = w64} (record { sfits = c.net-arg-1.given }) in
-    let seats : Seated (place_in given.places) seated given.playing = named_seats (place_in given.places) given.playing _ c.requires.fit.few c.requires.fit.below c.requires.fit.apart _ (c.ordered-seats.ensures ∙ ordered_few _ _ _ c.requires.fit.few) in
-    (rw first_ahead (c.requires.fit.aheads _ (seats.inside 0 c.requires.playing_nonzero)), first_small given c.ordered-seats.result seats c.requires.fit c.requires.playing_nonzero)
+    let seats : Seated (place_in given.places) seated given.playing =
+    named_seats (place_in given.places) given.playing _ c.requires.fit.few c.requires.fit.below c.requires.fit.apart _
+    (c.ordered-seats.ensures ∙ ordered_few _ _ _ c.requires.fit.few) in (
+      rw first_ahead (c.requires.fit.aheads _ (seats.inside 0 c.requires.playing_nonzero)),
+      first_small given c.ordered-seats.result seats
+          c.requires.fit c.requires.playing_nonzero,
+    )
 
 pub loop-k-init : goal.loop-k-init
 loop-k-init c =
@@ -62,7 +75,9 @@ loop-k-init c =
     let seated : ℕ → ℕ = λ k. seat_in c.ordered-seats.result k in
     let first : ℤ = ahead_in given.aheads (seated 0) in
     let first_ahead : to_z w64 (of_z w64 first) ≡ first = to_z-of_z {w = w64} (record { sfits = c.net-arg-1.given }) in
-    let seats : Seated (place_in given.places) seated given.playing = named_seats (place_in given.places) given.playing _ c.requires.fit.few c.requires.fit.below c.requires.fit.apart _ (c.ordered-seats.ensures ∙ ordered_few _ _ _ c.requires.fit.few) in
+    let seats : Seated (place_in given.places) seated given.playing =
+    named_seats (place_in given.places) given.playing _ c.requires.fit.few c.requires.fit.below c.requires.fit.apart _
+    (c.ordered-seats.ensures ∙ ordered_few _ _ _ c.requires.fit.few) in
     let e : to_z w64 (of_z w64 c.net-least.result) ≡ c.net-least.result = search rules in
     let n = ap (λ (z : ℤ). z -ℤ pos (set_of given.times (seated 0))) first_ahead in
     turned_first given c.ordered-seats.result seats _ c.requires.playing_nonzero (e ∙ c.net-least.ensures ∙ n)
@@ -82,7 +97,9 @@ offset_bounds-s-i c =
     let seated : ℕ → ℕ = λ k. seat_in c.ordered-seats.result k in
     let here : ℕ = seated c.loop-k.k in
     let given : Standing = c.args.s in
-    let seats : Seated (place_in given.places) seated given.playing = named_seats (place_in given.places) given.playing _ c.requires.fit.few c.requires.fit.below c.requires.fit.apart _ (c.ordered-seats.ensures ∙ ordered_few _ _ _ c.requires.fit.few) in
+    let seats : Seated (place_in given.places) seated given.playing =
+    named_seats (place_in given.places) given.playing _ c.requires.fit.few c.requires.fit.below c.requires.fit.apart _
+    (c.ordered-seats.ensures ∙ ordered_few _ _ _ c.requires.fit.few) in
     let few : (k : ℕ) → k < given.playing → seated k < 16 = λ k l. let i = seats.inside k l in omega arith in
     let seat : here < 16 = few _ c.loop-k-test.true in
     let l = seat in omega arith
@@ -92,7 +109,9 @@ bounds-s-i c =
     let seated : ℕ → ℕ = λ k. seat_in c.ordered-seats.result k in
     let here : ℕ = seated c.loop-k.k in
     let given : Standing = c.args.s in
-    let seats : Seated (place_in given.places) seated given.playing = named_seats (place_in given.places) given.playing _ c.requires.fit.few c.requires.fit.below c.requires.fit.apart _ (c.ordered-seats.ensures ∙ ordered_few _ _ _ c.requires.fit.few) in
+    let seats : Seated (place_in given.places) seated given.playing =
+    named_seats (place_in given.places) given.playing _ c.requires.fit.few c.requires.fit.below c.requires.fit.apart _
+    (c.ordered-seats.ensures ∙ ordered_few _ _ _ c.requires.fit.few) in
     let few : (k : ℕ) → k < given.playing → seated k < 16 = λ k l. let i = seats.inside k l in omega arith in
     let seat : here < 16 = few _ c.loop-k-test.true in
     seat
@@ -103,7 +122,9 @@ overflow_add-load c =
     let seated : ℕ → ℕ = λ k. seat_in c.ordered-seats.result k in
     let here : ℕ = seated c.loop-k.k in
     let load : ℕ = c.loop-k.sum + set_of given.times here in
-    let seats : Seated (place_in given.places) seated given.playing = named_seats (place_in given.places) given.playing _ c.requires.fit.few c.requires.fit.below c.requires.fit.apart _ (c.ordered-seats.ensures ∙ ordered_few _ _ _ c.requires.fit.few) in
+    let seats : Seated (place_in given.places) seated given.playing =
+    named_seats (place_in given.places) given.playing _ c.requires.fit.few c.requires.fit.below c.requires.fit.apart _
+    (c.ordered-seats.ensures ∙ ordered_few _ _ _ c.requires.fit.few) in
     let small : load ≤ 2 ^ 61 = next_small given c.ordered-seats.result seats c.requires.fit _ _ c.loop-k-test.true c.loop-k.invariant.times in
     record { fits = lt_of_le_of_lt small (omega arith) }
 
@@ -112,7 +133,9 @@ offset_bounds-s-i-in-loop-k c =
     let seated : ℕ → ℕ = λ k. seat_in c.ordered-seats.result k in
     let here : ℕ = seated c.loop-k.k in
     let given : Standing = c.args.s in
-    let seats : Seated (place_in given.places) seated given.playing = named_seats (place_in given.places) given.playing _ c.requires.fit.few c.requires.fit.below c.requires.fit.apart _ (c.ordered-seats.ensures ∙ ordered_few _ _ _ c.requires.fit.few) in
+    let seats : Seated (place_in given.places) seated given.playing =
+    named_seats (place_in given.places) given.playing _ c.requires.fit.few c.requires.fit.below c.requires.fit.apart _
+    (c.ordered-seats.ensures ∙ ordered_few _ _ _ c.requires.fit.few) in
     let few : (k : ℕ) → k < given.playing → seated k < 16 = λ k l. let i = seats.inside k l in omega arith in
     let seat : here < 16 = few _ c.loop-k-test.true in
     let l = seat in omega arith
@@ -122,7 +145,9 @@ bounds-s-i-in-loop-k c =
     let seated : ℕ → ℕ = λ k. seat_in c.ordered-seats.result k in
     let here : ℕ = seated c.loop-k.k in
     let given : Standing = c.args.s in
-    let seats : Seated (place_in given.places) seated given.playing = named_seats (place_in given.places) given.playing _ c.requires.fit.few c.requires.fit.below c.requires.fit.apart _ (c.ordered-seats.ensures ∙ ordered_few _ _ _ c.requires.fit.few) in
+    let seats : Seated (place_in given.places) seated given.playing =
+    named_seats (place_in given.places) given.playing _ c.requires.fit.few c.requires.fit.below c.requires.fit.apart _
+    (c.ordered-seats.ensures ∙ ordered_few _ _ _ c.requires.fit.few) in
     let few : (k : ℕ) → k < given.playing → seated k < 16 = λ k l. let i = seats.inside k l in omega arith in
     let seat : here < 16 = few _ c.loop-k-test.true in
     seat
@@ -134,7 +159,9 @@ net-spare-requires c =
     let here : ℕ = seated c.loop-k.k in
     let next : ℤ = ahead_in given.aheads here in
     let next_ahead : to_z w64 (of_z w64 next) ≡ next = to_z-of_z {w = w64} (record { sfits = c.net-arg-in-loop-k-1.given }) in
-    let seats : Seated (place_in given.places) seated given.playing = named_seats (place_in given.places) given.playing _ c.requires.fit.few c.requires.fit.below c.requires.fit.apart _ (c.ordered-seats.ensures ∙ ordered_few _ _ _ c.requires.fit.few) in
+    let seats : Seated (place_in given.places) seated given.playing =
+    named_seats (place_in given.places) given.playing _ c.requires.fit.few c.requires.fit.below c.requires.fit.apart _
+    (c.ordered-seats.ensures ∙ ordered_few _ _ _ c.requires.fit.few) in
     let load : ℕ = c.loop-k.sum + set_of given.times here in
     let small : load ≤ 2 ^ 61 = next_small given c.ordered-seats.result seats c.requires.fit _ _ c.loop-k-test.true c.loop-k.invariant.times in
     (rw next_ahead (c.requires.fit.aheads _ (seats.inside _ c.loop-k-test.true)), small)
@@ -152,12 +179,15 @@ pub loop-k-preserved : goal.loop-k-preserved
 loop-k-preserved c =
     let given : Standing = c.args.s in
     let seated : ℕ → ℕ = λ k. seat_in c.ordered-seats.result k in
-    let seats : Seated (place_in given.places) seated given.playing = named_seats (place_in given.places) given.playing _ c.requires.fit.few c.requires.fit.below c.requires.fit.apart _ (c.ordered-seats.ensures ∙ ordered_few _ _ _ c.requires.fit.few) in
+    let seats : Seated (place_in given.places) seated given.playing =
+    named_seats (place_in given.places) given.playing _ c.requires.fit.few c.requires.fit.below c.requires.fit.apart _
+    (c.ordered-seats.ensures ∙ ordered_few _ _ _ c.requires.fit.few) in
     let here : ℕ = seated c.loop-k.k in
     let load : ℕ = c.loop-k.sum + set_of given.times here in
     let next : ℤ = ahead_in given.aheads here in
     let next_ahead : to_z w64 (of_z w64 next) ≡ next = to_z-of_z {w = w64} (record { sfits = c.net-arg-in-loop-k-1.given }) in
-    let spare_is : to_z w64 (of_z w64 c.net-spare.result) ≡ next -ℤ pos load = let e : to_z w64 (of_z w64 c.net-spare.result) ≡ c.net-spare.result = search rules in
+    let spare_is : to_z w64 (of_z w64 c.net-spare.result) ≡ next -ℤ pos load = let e : to_z w64 (of_z w64 c.net-spare.result) ≡ c.net-spare.result =
+    search rules in
     e ∙ c.net-spare.ensures ∙ ap (λ (z : ℤ). z -ℤ pos load) next_ahead in
     let to : ℕ → Type 0 = λ x. LeastTo given c.ordered-seats.result load (to_z w64 x) (c.loop-k.k + 1) in
     elim c.if-spare-least.branch [
@@ -173,5 +203,7 @@ pub returns : goal.returns
 returns c =
     let given : Standing = c.args.s in
     let seated : ℕ → ℕ = λ k. seat_in c.ordered-seats.result k in
-    let seats : Seated (place_in given.places) seated given.playing = named_seats (place_in given.places) given.playing _ c.requires.fit.few c.requires.fit.below c.requires.fit.apart _ (c.ordered-seats.ensures ∙ ordered_few _ _ _ c.requires.fit.few) in
+    let seats : Seated (place_in given.places) seated given.playing =
+    named_seats (place_in given.places) given.playing _ c.requires.fit.few c.requires.fit.below c.requires.fit.apart _
+    (c.ordered-seats.ensures ∙ ordered_few _ _ _ c.requires.fit.few) in
     turned_all _ _ seats _ _ _ c.loop-k.invariant c.loop-k-test.false

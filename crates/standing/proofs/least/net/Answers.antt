@@ -7,10 +7,6 @@ use Rattle.standing.proofs.Standings.{less_small}
 use borrow.Author.Rules.{rules}
 use Rattle.standing.proofs.least.net.Goals as goal
 
-pub overflow_cast-result : goal.overflow_cast-result
-overflow_cast-result c =
-    search rules
-
 pub overflow_sub-result : goal.overflow_sub-result
 overflow_sub-result c =
     let low : c.args.load < 2 ^ 63 = omega arith in

@@ -21,12 +21,14 @@ pub returns-then-not-pairs_fit : goal.returns-then-not-pairs_fit
 returns-then-not-pairs_fit c =
     let some : (hex_text c.args.bytes.now ≡ pairs_text c.args.bytes.now) = hex_some c.args.bytes.now (omega arith) in
     let f = tells_no _ c.pairs_fit.result c.if-not-pairs_fit.true c.pairs_fit.ensures in
-    let pair = no_room c.args.out.now c.args.at (hex_text c.args.bytes.now) (λ h. f (omega (arith, h, pairs_length c.args.bytes.now, ap length some))) in record { out_after = pair.0; value = pair.1 }
+    let pair = no_room c.args.out.now c.args.at (hex_text c.args.bytes.now) (λ h. f (omega (arith, h, pairs_length c.args.bytes.now, ap length some)))
+    in record { out_after = pair.0; value = pair.1 }
 
 pub returns : goal.returns
 returns c =
     let some : (hex_text c.args.bytes.now ≡ pairs_text c.args.bytes.now) = hex_some c.args.bytes.now (omega arith) in
-    let room : (FitsAt c.args.out.now c.args.at (pairs_text c.args.bytes.now)) = let f = tells_yes _ c.pairs_fit.result c.if-not-pairs_fit.false c.pairs_fit.ensures in
+    let room : (FitsAt c.args.out.now c.args.at (pairs_text c.args.bytes.now)) = let f =
+    tells_yes _ c.pairs_fit.result c.if-not-pairs_fit.false c.pairs_fit.ensures in
     record { fits = omega (arith, pairs_length c.args.bytes.now) } in
     let e = sym some in
     let pair = put_answers (room_as e room) (put_as e c.put_pairs.ensures) in record { out_after = pair.0; value = pair.1 }

@@ -15,13 +15,17 @@ loop-i-init c =
 
 pub put_pair-next-requires : goal.put_pair-next-requires
 put_pair-next-requires c =
-    let whole : FitsAt c.args.out.now c.args.at (so_far c.args.bytes.now (length c.args.bytes.now)) = room_as (sym (pieces_whole c.args.bytes.now)) c.requires in
-    piece_room _ _ (so_far c.args.bytes.now) _ (piece c.args.bytes.now) (piece_more c.args.bytes.now) whole c.loop-i.out c.loop-i.i c.loop-i.next c.loop-i.invariant (omega arith)
+    let whole : FitsAt c.args.out.now c.args.at (so_far c.args.bytes.now (length c.args.bytes.now)) =
+    room_as (sym (pieces_whole c.args.bytes.now)) c.requires in
+    piece_room _ _ (so_far c.args.bytes.now) _ (piece c.args.bytes.now) (piece_more c.args.bytes.now) whole c.loop-i.out c.loop-i.i c.loop-i.next
+    c.loop-i.invariant (omega arith)
 
 pub loop-i-preserved : goal.loop-i-preserved
 loop-i-preserved c =
-    let whole : FitsAt c.args.out.now c.args.at (so_far c.args.bytes.now (length c.args.bytes.now)) = room_as (sym (pieces_whole c.args.bytes.now)) c.requires in
-    piece_put _ _ (so_far c.args.bytes.now) _ (piece c.args.bytes.now) (piece_more c.args.bytes.now) whole c.loop-i.out c.loop-i.i c.loop-i.next c.loop-i.invariant (omega arith)
+    let whole : FitsAt c.args.out.now c.args.at (so_far c.args.bytes.now (length c.args.bytes.now)) =
+    room_as (sym (pieces_whole c.args.bytes.now)) c.requires in
+    piece_put _ _ (so_far c.args.bytes.now) _ (piece c.args.bytes.now) (piece_more c.args.bytes.now) whole c.loop-i.out c.loop-i.i c.loop-i.next
+    c.loop-i.invariant (omega arith)
     c.put_pair-next.new.out c.put_pair-next.result c.put_pair-next.auto.out c.put_pair-next.ensures
 
 pub returns : goal.returns

@@ -11,10 +11,12 @@ use Rattle.verdict.proofs.known.takes.Goals as goal
 
 pub returns-in_default : goal.returns-in_default
 returns-in_default c =
-    let told : c.takes-worst.result ≡ takes_of (read_cost c.args.layout) c.args.cylinder c.args.n = c.takes-worst.ensures ∙ ap (λ (x : Cost). takes_of x c.args.cylinder c.args.n) c.of_read-cost.ensures in
+    let told : c.takes-worst.result ≡ takes_of (read_cost c.args.layout) c.args.cylinder c.args.n =
+    c.takes-worst.ensures ∙ ap (λ (x : Cost). takes_of x c.args.cylinder c.args.n) c.of_read-cost.ensures in
     takes_granted _ _ _ c.requires.1 (read_limited _ c.requires.0) (sym told ∙ c.in_default.is)
 
 pub returns : goal.returns
 returns c =
-    let told : c.takes-worst.result ≡ takes_of (read_cost c.args.layout) c.args.cylinder c.args.n = c.takes-worst.ensures ∙ ap (λ (x : Cost). takes_of x c.args.cylinder c.args.n) c.of_read-cost.ensures in
+    let told : c.takes-worst.result ≡ takes_of (read_cost c.args.layout) c.args.cylinder c.args.n =
+    c.takes-worst.ensures ∙ ap (λ (x : Cost). takes_of x c.args.cylinder c.args.n) c.of_read-cost.ensures in
     takes_told _ _ _ _ c.requires.0 c.requires.1 (omega arith) (sym told ∙ c.in-Takes.is)

@@ -48,7 +48,8 @@ pub overflow_mul-work : goal.overflow_mul-work
 overflow_mul-work c =
     let show : Show = c.args.show in
     let within : ShowWithin show = c.requires in
-    let rate : get_or c.rates_of-rates.result c.loop-i.i 0 ≡ rates_of show c.loop-i.i = rate_at show _ c.rates_of-rates.ensures _ c.loop-i-test.true in
+    let rate : get_or c.rates_of-rates.result c.loop-i.i 0 ≡ rates_of show c.loop-i.i =
+    rate_at show _ c.rates_of-rates.ensures _ c.loop-i-test.true in
     let fits : Fits (load_of show) c.loop-i.t = fits_early _ within _ c.end_of-end.ensures _ c.loop-i.invariant.search.early in
     omega (arith, work_capped _ within _ _ _ rate c.loop-i-test.true fits)
 
@@ -63,7 +64,8 @@ pub overflow_add-count : goal.overflow_add-count
 overflow_add-count c =
     let show : Show = c.args.show in
     let within : ShowWithin show = c.requires in
-    let rate : get_or c.rates_of-rates.result c.loop-i.i 0 ≡ rates_of show c.loop-i.i = rate_at show _ c.rates_of-rates.ensures _ c.loop-i-test.true in
+    let rate : get_or c.rates_of-rates.result c.loop-i.i 0 ≡ rates_of show c.loop-i.i =
+    rate_at show _ c.rates_of-rates.ensures _ c.loop-i-test.true in
     let fits : Fits (load_of show) c.loop-i.t = fits_early _ within _ c.end_of-end.ensures _ c.loop-i.invariant.search.early in
     omega (arith, count_few _ within _ _ _ rate c.loop-i-test.true fits)
 
@@ -90,7 +92,8 @@ pub overflow_cast-count : goal.overflow_cast-count
 overflow_cast-count c =
     let show : Show = c.args.show in
     let within : ShowWithin show = c.requires in
-    let rate : get_or c.rates_of-rates.result c.loop-i.i 0 ≡ rates_of show c.loop-i.i = rate_at show _ c.rates_of-rates.ensures _ c.loop-i-test.true in
+    let rate : get_or c.rates_of-rates.result c.loop-i.i 0 ≡ rates_of show c.loop-i.i =
+    rate_at show _ c.rates_of-rates.ensures _ c.loop-i-test.true in
     let fits : Fits (load_of show) c.loop-i.t = fits_early _ within _ c.end_of-end.ensures _ c.loop-i.invariant.search.early in
     omega (arith, count_few _ within _ _ _ rate c.loop-i-test.true fits)
 
@@ -118,8 +121,10 @@ pub overflow_add-t : goal.overflow_add-t
 overflow_add-t c =
     let show : Show = c.args.show in
     let within : ShowWithin show = c.requires in
-    let rate : get_or c.rates_of-rates.result c.loop-i.i 0 ≡ rates_of show c.loop-i.i = rate_at show _ c.rates_of-rates.ensures _ c.loop-i-test.true in
-    let time : c.takes-time.result ≡ ((load_of show).stream c.loop-i.i).time (asked (load_of show) c.loop-i.t c.loop-i.i) = time_asked _ within _ _ _ rate c.loop-i-test.true _ c.takes-time.ensures.0 in
+    let rate : get_or c.rates_of-rates.result c.loop-i.i 0 ≡ rates_of show c.loop-i.i =
+    rate_at show _ c.rates_of-rates.ensures _ c.loop-i-test.true in
+    let time : c.takes-time.result ≡ ((load_of show).stream c.loop-i.i).time (asked (load_of show) c.loop-i.t c.loop-i.i) =
+    time_asked _ within _ _ _ rate c.loop-i-test.true _ c.takes-time.ensures.0 in
     let fits : Fits (load_of show) c.loop-i.t = fits_early _ within _ c.end_of-end.ensures _ c.loop-i.invariant.search.early in
     omega (arith, later_small _ within _ _ _ _ _ _ c.loop-i.invariant c.loop-i-test.true _ time fits)
 
@@ -127,8 +132,10 @@ pub returns-then-end-t : goal.returns-then-end-t
 returns-then-end-t c =
     let show : Show = c.args.show in
     let within : ShowWithin show = c.requires in
-    let rate : get_or c.rates_of-rates.result c.loop-i.i 0 ≡ rates_of show c.loop-i.i = rate_at show _ c.rates_of-rates.ensures _ c.loop-i-test.true in
-    let time : c.takes-time.result ≡ ((load_of show).stream c.loop-i.i).time (asked (load_of show) c.loop-i.t c.loop-i.i) = time_asked _ within _ _ _ rate c.loop-i-test.true _ c.takes-time.ensures.0 in
+    let rate : get_or c.rates_of-rates.result c.loop-i.i 0 ≡ rates_of show c.loop-i.i =
+    rate_at show _ c.rates_of-rates.ensures _ c.loop-i-test.true in
+    let time : c.takes-time.result ≡ ((load_of show).stream c.loop-i.i).time (asked (load_of show) c.loop-i.t c.loop-i.i) =
+    time_asked _ within _ _ _ rate c.loop-i-test.true _ c.takes-time.ensures.0 in
     let fits : Fits (load_of show) c.loop-i.t = fits_early _ within _ c.end_of-end.ensures _ c.loop-i.invariant.search.early in
     none_late _ within _ c.end_of-end.ensures _ (later_below _ within _ _ _ _ _ _ c.loop-i.invariant c.loop-i-test.true _ time) c.if-end-t.true
     (let h = later_small _ within _ _ _ _ _ _ c.loop-i.invariant c.loop-i-test.true _ time fits in omega arith)
@@ -137,7 +144,8 @@ pub overflow_mul-covered : goal.overflow_mul-covered
 overflow_mul-covered c =
     let show : Show = c.args.show in
     let within : ShowWithin show = c.requires in
-    let rate : get_or c.rates_of-rates.result c.loop-i.i 0 ≡ rates_of show c.loop-i.i = rate_at show _ c.rates_of-rates.ensures _ c.loop-i-test.true in
+    let rate : get_or c.rates_of-rates.result c.loop-i.i 0 ≡ rates_of show c.loop-i.i =
+    rate_at show _ c.rates_of-rates.ensures _ c.loop-i-test.true in
     let fits : Fits (load_of show) c.loop-i.t = fits_early _ within _ c.end_of-end.ensures _ c.loop-i.invariant.search.early in
     omega (arith, covered_capped _ within _ _ _ rate c.loop-i-test.true fits)
 

@@ -14,17 +14,20 @@ returns-then-not-counts_within c =
 
 pub distanced-requires : goal.distanced-requires
 distanced-requires c =
-    let counts : CountsWithin c.args.self.laid c.args.self.playing = tells_yes _ c.counts_within.result c.if-not-counts_within.false c.counts_within.ensures in
+    let counts : CountsWithin c.args.self.laid c.args.self.playing =
+    tells_yes _ c.counts_within.result c.if-not-counts_within.false c.counts_within.ensures in
     counts
 
 pub returns-then-not-distanced : goal.returns-then-not-distanced
 returns-then-not-distanced c =
-    let counts : CountsWithin c.args.self.laid c.args.self.playing = tells_yes _ c.counts_within.result c.if-not-counts_within.false c.counts_within.ensures in
+    let counts : CountsWithin c.args.self.laid c.args.self.playing =
+    tells_yes _ c.counts_within.result c.if-not-counts_within.false c.counts_within.ensures in
     trailer_distances _ _ counts (tells_no _ c.distanced.result c.if-not-distanced.true c.distanced.ensures)
 
 pub overflow_add-self : goal.overflow_add-self
 overflow_add-self c =
-    let counts : CountsWithin c.args.self.laid c.args.self.playing = tells_yes _ c.counts_within.result c.if-not-counts_within.false c.counts_within.ensures in
+    let counts : CountsWithin c.args.self.laid c.args.self.playing =
+    tells_yes _ c.counts_within.result c.if-not-counts_within.false c.counts_within.ensures in
     let distances : Distanced c.args.at c.args.self = tells_yes _ c.distanced.result c.if-not-distanced.false c.distanced.ensures in
     let k = counts in
     let d = distances in
@@ -32,7 +35,8 @@ overflow_add-self c =
 
 pub overflow_mul-self : goal.overflow_mul-self
 overflow_mul-self c =
-    let counts : CountsWithin c.args.self.laid c.args.self.playing = tells_yes _ c.counts_within.result c.if-not-counts_within.false c.counts_within.ensures in
+    let counts : CountsWithin c.args.self.laid c.args.self.playing =
+    tells_yes _ c.counts_within.result c.if-not-counts_within.false c.counts_within.ensures in
     let distances : Distanced c.args.at c.args.self = tells_yes _ c.distanced.result c.if-not-distanced.false c.distanced.ensures in
     let k = counts in
     let d = distances in
@@ -40,7 +44,8 @@ overflow_mul-self c =
 
 pub overflow_sub-at : goal.overflow_sub-at
 overflow_sub-at c =
-    let counts : CountsWithin c.args.self.laid c.args.self.playing = tells_yes _ c.counts_within.result c.if-not-counts_within.false c.counts_within.ensures in
+    let counts : CountsWithin c.args.self.laid c.args.self.playing =
+    tells_yes _ c.counts_within.result c.if-not-counts_within.false c.counts_within.ensures in
     let distances : Distanced c.args.at c.args.self = tells_yes _ c.distanced.result c.if-not-distanced.false c.distanced.ensures in
     let k = counts in
     let d = distances in
@@ -48,13 +53,15 @@ overflow_sub-at c =
 
 pub returns-then-not-note_within : goal.returns-then-not-note_within
 returns-then-not-note_within c =
-    let counts : CountsWithin c.args.self.laid c.args.self.playing = tells_yes _ c.counts_within.result c.if-not-counts_within.false c.counts_within.ensures in
+    let counts : CountsWithin c.args.self.laid c.args.self.playing =
+    tells_yes _ c.counts_within.result c.if-not-counts_within.false c.counts_within.ensures in
     let distances : Distanced c.args.at c.args.self = tells_yes _ c.distanced.result c.if-not-distanced.false c.distanced.ensures in
     trailer_note _ _ counts distances (tells_no _ c.note_within.result c.if-not-note_within.true c.note_within.ensures)
 
 pub returns : goal.returns
 returns c =
-    let counts : CountsWithin c.args.self.laid c.args.self.playing = tells_yes _ c.counts_within.result c.if-not-counts_within.false c.counts_within.ensures in
+    let counts : CountsWithin c.args.self.laid c.args.self.playing =
+    tells_yes _ c.counts_within.result c.if-not-counts_within.false c.counts_within.ensures in
     let distances : Distanced c.args.at c.args.self = tells_yes _ c.distanced.result c.if-not-distanced.false c.distanced.ensures in
     let note = tells_yes _ c.note_within.result c.if-not-note_within.false c.note_within.ensures in
     sym (framed_check _ _ (record { counts = counts; distances = distances; note = note }))
