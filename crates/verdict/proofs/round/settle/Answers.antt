@@ -5,8 +5,6 @@ use Prim.Native.Nat.{◌<◌}
 use mathlib.Core.Path.{◌≡◌}
 use native.Mathlib.Omega.{arith}
 use lib.ListN.{get_or}
-use Rattle.show.specs.declared.Show.{Show}
-use Rattle.show.specs.Limits.{ShowWithin}
 use Rattle.cost.proofs.Costs.{laid_below, layout_within}
 use Rattle.theory.specs.Rounds.{asked, Fits}
 use Rattle.theory.specs.Shows.{load_of}
@@ -15,7 +13,24 @@ use Rattle.verdict.proofs.Ends.{fits_early, none_late, none_begun}
 use Rattle.verdict.proofs.Works.{rate_at, count_asked, time_asked, count_few, covered_capped, work_capped}
 use Rattle.verdict.proofs.Turns.{begun, stays, part, later_below, later_small, changes, turn_begun, settled}
 use Rattle.verdict.proofs.round.settle.Goals as goal
-use Rattle.verdict.proofs.round.settle.Goals.{then-covered-i+else-end-t, else-covered-i}
+use Rattle.verdict.proofs.round.settle.Goals.{At-loop-i, After-takes-time, then-covered-i+else-end-t, else-covered-i}
+
+-- In a turn: the session has a place, its rate is the show's, and what it is asked for fits its buffer.
+few : (c : At-loop-i) → c.loop-i.i < c.args.show.playing → c.loop-i.i < 16
+few c l = let h = c.requires.counts.sessions in omega arith
+
+rate : (c : At-loop-i) → c.loop-i.i < c.args.show.playing → get_or c.rates_of-rates.result c.loop-i.i 0 ≡ rates_of c.args.show c.loop-i.i
+rate c l = rate_at c.args.show _ c.rates_of-rates.ensures _ l
+
+fits : (c : At-loop-i) → Fits (load_of c.args.show) c.loop-i.t
+fits c = fits_early _ c.requires _ c.end_of-end.ensures _ c.loop-i.invariant.search.early
+
+-- the time that the turn puts in the place of the one before
+time :
+    (c : After-takes-time) → get_or c.rates_of-rates.result c.loop-i.i 0 ≡ rates_of c.args.show c.loop-i.i →
+    let l = load_of c.args.show in
+    c.takes-time.result ≡ (l.stream c.loop-i.i).time (asked l c.loop-i.t c.loop-i.i)
+time c r = time_asked _ c.requires _ _ _ r c.loop-i-test.true _ c.takes-time.ensures.0
 
 pub end_of-end-requires : goal.end_of-end-requires
 end_of-end-requires c =
@@ -39,129 +54,89 @@ loop-i-init c =
 
 pub bounds-rates-i : goal.bounds-rates-i
 bounds-rates-i c =
-    let show : Show = c.args.show in
-    let within : ShowWithin show = c.requires in
-    let few : c.loop-i.i < 16 = let h = within.counts.sessions in omega arith in
-    few
+    few (goal.at.bounds-rates-i c).At-loop-i c.loop-i-test.true
 
 pub overflow_mul-work : goal.overflow_mul-work
 overflow_mul-work c =
-    let show : Show = c.args.show in
-    let within : ShowWithin show = c.requires in
-    let rate : get_or c.rates_of-rates.result c.loop-i.i 0 ≡ rates_of show c.loop-i.i =
-    rate_at show _ c.rates_of-rates.ensures _ c.loop-i-test.true in
-    let fits : Fits (load_of show) c.loop-i.t = fits_early _ within _ c.end_of-end.ensures _ c.loop-i.invariant.search.early in
-    omega (arith, work_capped _ within _ _ _ rate c.loop-i-test.true fits)
+    let at = goal.at.overflow_mul-work c in
+    let r = rate at.At-loop-i c.loop-i-test.true in
+    let f = fits at.At-loop-i in
+    omega (arith, work_capped _ c.requires _ _ _ r c.loop-i-test.true f)
 
 pub bounds-covered-i : goal.bounds-covered-i
 bounds-covered-i c =
-    let show : Show = c.args.show in
-    let within : ShowWithin show = c.requires in
-    let few : c.loop-i.i < 16 = let h = within.counts.sessions in omega arith in
-    few
+    few (goal.at.bounds-covered-i c).At-loop-i c.loop-i-test.true
 
 pub overflow_add-count : goal.overflow_add-count
 overflow_add-count c =
-    let show : Show = c.args.show in
-    let within : ShowWithin show = c.requires in
-    let rate : get_or c.rates_of-rates.result c.loop-i.i 0 ≡ rates_of show c.loop-i.i =
-    rate_at show _ c.rates_of-rates.ensures _ c.loop-i-test.true in
-    let fits : Fits (load_of show) c.loop-i.t = fits_early _ within _ c.end_of-end.ensures _ c.loop-i.invariant.search.early in
-    omega (arith, count_few _ within _ _ _ rate c.loop-i-test.true fits)
+    let at = goal.at.overflow_add-count c in
+    let r = rate at.At-loop-i c.loop-i-test.true in
+    let f = fits at.At-loop-i in
+    omega (arith, count_few _ c.requires _ _ _ r c.loop-i-test.true f)
 
 pub bounds-show-i : goal.bounds-show-i
 bounds-show-i c =
-    let show : Show = c.args.show in
-    let within : ShowWithin show = c.requires in
-    let few : c.loop-i.i < 16 = let h = within.counts.sessions in omega arith in
-    few
+    few (goal.at.bounds-show-i c).At-loop-i c.loop-i-test.true
 
 pub offset_bounds-show-at : goal.offset_bounds-show-at
 offset_bounds-show-at c =
-    let show : Show = c.args.show in
-    let within : ShowWithin show = c.requires in
-    let h = laid_below _ within _ c.loop-i-test.true in omega arith
+    let h = laid_below _ c.requires _ c.loop-i-test.true in omega arith
 
 pub bounds-show-at : goal.bounds-show-at
 bounds-show-at c =
-    let show : Show = c.args.show in
-    let within : ShowWithin show = c.requires in
-    let h = laid_below _ within _ c.loop-i-test.true in omega arith
+    let h = laid_below _ c.requires _ c.loop-i-test.true in omega arith
 
 pub overflow_cast-count : goal.overflow_cast-count
 overflow_cast-count c =
-    let show : Show = c.args.show in
-    let within : ShowWithin show = c.requires in
-    let rate : get_or c.rates_of-rates.result c.loop-i.i 0 ≡ rates_of show c.loop-i.i =
-    rate_at show _ c.rates_of-rates.ensures _ c.loop-i-test.true in
-    let fits : Fits (load_of show) c.loop-i.t = fits_early _ within _ c.end_of-end.ensures _ c.loop-i.invariant.search.early in
-    omega (arith, count_few _ within _ _ _ rate c.loop-i-test.true fits)
+    let at = goal.at.overflow_cast-count c in
+    let r = rate at.At-loop-i c.loop-i-test.true in
+    let f = fits at.At-loop-i in
+    omega (arith, count_few _ c.requires _ _ _ r c.loop-i-test.true f)
 
 pub takes-time-requires : goal.takes-time-requires
 takes-time-requires c =
-    let show : Show = c.args.show in
-    let within : ShowWithin show = c.requires in
-    let w = within in
+    let w = c.requires in
     (layout_within _ w _ c.loop-i-test.true, w.drive.cylinder)
 
 pub bounds-times-i : goal.bounds-times-i
 bounds-times-i c =
-    let show : Show = c.args.show in
-    let within : ShowWithin show = c.requires in
-    let few : c.loop-i.i < 16 = let h = within.counts.sessions in omega arith in
-    few
+    few (goal.at.bounds-times-i c).At-loop-i c.loop-i-test.true
 
 pub overflow_sub-t : goal.overflow_sub-t
 overflow_sub-t c =
-    let show : Show = c.args.show in
-    let within : ShowWithin show = c.requires in
-    part _ within _ _ _ _ _ _ c.loop-i.invariant c.loop-i-test.true
+    part _ c.requires _ _ _ _ _ _ c.loop-i.invariant c.loop-i-test.true
 
 pub overflow_add-t : goal.overflow_add-t
 overflow_add-t c =
-    let show : Show = c.args.show in
-    let within : ShowWithin show = c.requires in
-    let rate : get_or c.rates_of-rates.result c.loop-i.i 0 ≡ rates_of show c.loop-i.i =
-    rate_at show _ c.rates_of-rates.ensures _ c.loop-i-test.true in
-    let time : c.takes-time.result ≡ ((load_of show).stream c.loop-i.i).time (asked (load_of show) c.loop-i.t c.loop-i.i) =
-    time_asked _ within _ _ _ rate c.loop-i-test.true _ c.takes-time.ensures.0 in
-    let fits : Fits (load_of show) c.loop-i.t = fits_early _ within _ c.end_of-end.ensures _ c.loop-i.invariant.search.early in
-    omega (arith, later_small _ within _ _ _ _ _ _ c.loop-i.invariant c.loop-i-test.true _ time fits)
+    let at = goal.at.overflow_add-t c in
+    let r = rate at.At-loop-i c.loop-i-test.true in
+    let e = time at.After-takes-time r in
+    let f = fits at.At-loop-i in
+    omega (arith, later_small _ c.requires _ _ _ _ _ _ c.loop-i.invariant c.loop-i-test.true _ e f)
 
 pub returns-then-end-t : goal.returns-then-end-t
 returns-then-end-t c =
-    let show : Show = c.args.show in
-    let within : ShowWithin show = c.requires in
-    let rate : get_or c.rates_of-rates.result c.loop-i.i 0 ≡ rates_of show c.loop-i.i =
-    rate_at show _ c.rates_of-rates.ensures _ c.loop-i-test.true in
-    let time : c.takes-time.result ≡ ((load_of show).stream c.loop-i.i).time (asked (load_of show) c.loop-i.t c.loop-i.i) =
-    time_asked _ within _ _ _ rate c.loop-i-test.true _ c.takes-time.ensures.0 in
-    let fits : Fits (load_of show) c.loop-i.t = fits_early _ within _ c.end_of-end.ensures _ c.loop-i.invariant.search.early in
-    none_late _ within _ c.end_of-end.ensures _ (later_below _ within _ _ _ _ _ _ c.loop-i.invariant c.loop-i-test.true _ time) c.if-end-t.true
-    (let h = later_small _ within _ _ _ _ _ _ c.loop-i.invariant c.loop-i-test.true _ time fits in omega arith)
+    let at = goal.at.returns-then-end-t c in
+    let r = rate at.At-loop-i c.loop-i-test.true in
+    let e = time at.After-takes-time r in
+    let f = fits at.At-loop-i in
+    none_late _ c.requires _ c.end_of-end.ensures _ (later_below _ c.requires _ _ _ _ _ _ c.loop-i.invariant c.loop-i-test.true _ e) c.if-end-t.true
+    (let h = later_small _ c.requires _ _ _ _ _ _ c.loop-i.invariant c.loop-i-test.true _ e f in omega arith)
 
 pub overflow_mul-covered : goal.overflow_mul-covered
 overflow_mul-covered c =
-    let show : Show = c.args.show in
-    let within : ShowWithin show = c.requires in
-    let rate : get_or c.rates_of-rates.result c.loop-i.i 0 ≡ rates_of show c.loop-i.i =
-    rate_at show _ c.rates_of-rates.ensures _ c.loop-i-test.true in
-    let fits : Fits (load_of show) c.loop-i.t = fits_early _ within _ c.end_of-end.ensures _ c.loop-i.invariant.search.early in
-    omega (arith, covered_capped _ within _ _ _ rate c.loop-i-test.true fits)
+    let at = goal.at.overflow_mul-covered c in
+    let r = rate at.At-loop-i c.loop-i-test.true in
+    let f = fits at.At-loop-i in
+    omega (arith, covered_capped _ c.requires _ _ _ r c.loop-i-test.true f)
 
 pub bounds-covered-i-then-covered-i : goal.bounds-covered-i-then-covered-i
 bounds-covered-i-then-covered-i c =
-    let show : Show = c.args.show in
-    let within : ShowWithin show = c.requires in
-    let few : c.loop-i.i < 16 = let h = within.counts.sessions in omega arith in
-    few
+    few (goal.at.bounds-covered-i-then-covered-i c).At-loop-i c.loop-i-test.true
 
 pub bounds-times-i-then-covered-i : goal.bounds-times-i-then-covered-i
 bounds-times-i-then-covered-i c =
-    let show : Show = c.args.show in
-    let within : ShowWithin show = c.requires in
-    let few : c.loop-i.i < 16 = let h = within.counts.sessions in omega arith in
-    few
+    few (goal.at.bounds-times-i-then-covered-i c).At-loop-i c.loop-i-test.true
 
 pub loop-i-smaller : goal.loop-i-smaller
 loop-i-smaller c =
@@ -169,19 +144,16 @@ loop-i-smaller c =
 
 pub loop-i-preserved : goal.loop-i-preserved
 loop-i-preserved c =
-    let show : Show = c.args.show in
-    let within : ShowWithin show = c.requires in
-    let rate : get_or c.rates_of-rates.result c.loop-i.i 0 ≡ rates_of show c.loop-i.i =
-    rate_at show _ c.rates_of-rates.ensures _ c.loop-i-test.true in
+    let w = c.requires in
+    let r = rate (goal.at.loop-i-preserved c).At-loop-i c.loop-i-test.true in
     elim c.if-covered-i.branch [
-      | then-covered-i+else-end-t w ↦
-          let time : w.takes-time.result ≡ ((load_of show).stream c.loop-i.i).time (asked (load_of show) c.loop-i.t c.loop-i.i) =
-          time_asked _ within _ _ _ rate c.loop-i-test.true _ w.takes-time.ensures.0 in
-          rw (w.covered-is, w.times-is, w.t-is)
-          (changes _ within _ _ _ _ _ _ c.loop-i.invariant c.loop-i-test.true _ time _ (count_asked _ within _ _ _ rate) w.if-end-t.false)
-      | else-covered-i w ↦
-          rw (w.covered-is, w.times-is, w.t-is)
-          (stays _ within _ _ _ _ _ _ c.loop-i.invariant c.loop-i-test.true _ rate w.if-covered-i.false)
+      | then-covered-i+else-end-t v ↦
+          let e = time_asked _ w _ _ _ r c.loop-i-test.true _ v.takes-time.ensures.0 in
+          rw (v.covered-is, v.times-is, v.t-is)
+          (changes _ w _ _ _ _ _ _ c.loop-i.invariant c.loop-i-test.true _ e _ (count_asked _ w _ _ _ r) v.if-end-t.false)
+      | else-covered-i v ↦
+          rw (v.covered-is, v.times-is, v.t-is)
+          (stays _ w _ _ _ _ _ _ c.loop-i.invariant c.loop-i-test.true _ r v.if-covered-i.false)
     ]
 
 pub returns-then-t-before : goal.returns-then-t-before
