@@ -30,13 +30,11 @@ returns-then-not-distanced c =
 
 pub overflow_add-self : goal.overflow_add-self
 overflow_add-self c =
-    let k = counts (goal.at.overflow_add-self c).Else-not-counts_within in
-    omega arith
+    let k = counts (goal.at.overflow_add-self c).Else-not-counts_within in omega arith
 
 pub overflow_mul-self : goal.overflow_mul-self
 overflow_mul-self c =
-    let k = counts (goal.at.overflow_mul-self c).Else-not-counts_within in
-    omega arith
+    let k = counts (goal.at.overflow_mul-self c).Else-not-counts_within in omega arith
 
 pub overflow_sub-at : goal.overflow_sub-at
 overflow_sub-at c =
