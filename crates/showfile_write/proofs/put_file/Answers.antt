@@ -5,7 +5,6 @@ use native.Mathlib.Omega.{arith}
 use lib.ListN.{length}
 use Rattle.show.proofs.Lists.{unmapped}
 use Rattle.showfile.specs.File.{file_of}
-use Rattle.showfile.specs.Checks.{note_most}
 use Rattle.showfile_write.proofs.Passed.{Writable, check_writable}
 use Rattle.showfile_write.proofs.Sizes.{shown_length}
 use Rattle.showfile_write.proofs.Filed.{file_filed}
@@ -15,9 +14,8 @@ use Rattle.showfile_write.proofs.put_file.Goals as goal
 
 -- all that a sum or a place below wants
 record Fits (c : Start) : Type 0 where
-  laid : c.args.show.laid ≤ 8
-  playing : c.args.show.playing ≤ 16
-  short : length c.args.note.now ≤ note_most
+  laid : c.args.show.laid ≤ length c.args.show.layouts
+  playing : c.args.show.playing ≤ length c.args.show.sessions
   inside : length c.args.note.now + 16 * (c.args.show.laid + c.args.show.playing) + 20 ≤ length c.args.buffer.now
   size : length (file_of c.args.show c.args.note.now) ≡ length c.args.note.now + 16 * (c.args.show.laid + c.args.show.playing) + 20
   good : Writable c.args.show c.args.note.now (length c.args.buffer.now)
@@ -26,9 +24,11 @@ fits : (c : Start) → Fits c
 fits c =
     let w = check_writable _ _ _ c.requires in
     let k = w.within.counts in
-    let s = shown_length c.args.show c.args.note.now (search (unmapped, rules)) (search (unmapped, rules)) k in
+    let l : length c.args.show.layouts ≡ 8 = search (unmapped, rules) in
+    let p : length c.args.show.sessions ≡ 16 = search (unmapped, rules) in
+    let s = shown_length c.args.show c.args.note.now l p k in
     let inside = w.fits in
-    record { laid = omega arith; playing = omega arith; short = w.short; inside = omega arith; size = s; good = w }
+    record { laid = omega arith; playing = omega arith; inside = omega arith; size = s; good = w }
 
 pub overflow_mul-second : goal.overflow_mul-second
 overflow_mul-second c =
@@ -73,11 +73,8 @@ trailer_of-requires c =
 pub returns : goal.returns
 returns c =
     let f = fits (goal.at.returns c).Start in
-    let e = f.size in
-    let l : length c.args.show.layouts ≡ 8 = search (unmapped, rules) in
-    let p : length c.args.show.sessions ≡ 16 = search (unmapped, rules) in
     record {
       value = omega arith;
-      buffer_after = file_filed _ _ _ (omega arith) (omega arith) f.good.fits c.put_bytes.ensures c.put_layouts.ensures c.put_sessions.ensures
+      buffer_after = file_filed _ _ _ f.laid f.playing f.good.fits c.put_bytes.ensures c.put_layouts.ensures c.put_sessions.ensures
           (rw (← c.trailer_of.ensures) c.put_trailer.ensures);
     }
