@@ -8,10 +8,22 @@ use Rattle.show.proofs.Checks.{tells_yes, tells_no}
 use Rattle.text.specs.Decimal.{decimal}
 use Rattle.text.specs.Puts.{FitsAt}
 use Rattle.text.proofs.Puts.{room_first, room_then, put_then, put_answers, no_room}
+use Rattle.text.proofs.put_numbered.Goals.{Else-not-fits, After-put_bytes-number}
 use Rattle.text.proofs.put_numbered.Goals as goal
 
 three_length : (t u v : List ℕ) → length (t ++ (u ++ v)) ≡ length t + (length u + length v)
 three_length t u v = simp length-append
+
+room : (c : Else-not-fits) → FitsAt c.args.out.now c.args.at (c.args.before.now ++ (decimal c.args.n ++ c.args.after.now))
+room c =
+    let f = tells_yes _ c.fits.result c.if-not-fits.false c.fits.ensures in
+    record { fits = omega (arith, three_length c.args.before.now (decimal c.args.n) c.args.after.now) }
+
+-- the room behind what stands before
+room_number :
+    (c : After-put_bytes-number) → FitsAt c.args.out.now c.args.at (c.args.before.now ++ (decimal c.args.n ++ c.args.after.now)) →
+    FitsAt c.put_bytes-number.new.out c.put_bytes-number.result (decimal c.args.n ++ c.args.after.now)
+room_number c r = room_then _ _ r c.put_bytes-number.ensures c.put_bytes-number.auto.out
 
 pub returns-then-not-fits : goal.returns-then-not-fits
 returns-then-not-fits c =
@@ -21,44 +33,26 @@ returns-then-not-fits c =
 
 pub put_bytes-number-requires : goal.put_bytes-number-requires
 put_bytes-number-requires c =
-    let front : List ℕ = c.args.before.now in
-    let rest : List ℕ = decimal c.args.n ++ c.args.after.now in
-    let room : FitsAt c.args.out.now c.args.at (front ++ rest) = let f = tells_yes _ c.fits.result c.if-not-fits.false c.fits.ensures in
-    record { fits = omega (arith, three_length c.args.before.now (decimal c.args.n) c.args.after.now) } in
-    room_first front rest room
+    room_first _ _ (room (goal.at.put_bytes-number-requires c).Else-not-fits)
 
 pub put_decimal-end-requires : goal.put_decimal-end-requires
 put_decimal-end-requires c =
-    let rest : List ℕ = decimal c.args.n ++ c.args.after.now in
-    let front : List ℕ = c.args.before.now in
-    let room : FitsAt c.args.out.now c.args.at (front ++ rest) = let f = tells_yes _ c.fits.result c.if-not-fits.false c.fits.ensures in
-    record { fits = omega (arith, three_length c.args.before.now (decimal c.args.n) c.args.after.now) } in
-    let room_number : FitsAt c.put_bytes-number.new.out c.put_bytes-number.result rest =
-    room_then front rest room c.put_bytes-number.ensures c.put_bytes-number.auto.out in
+    let at = goal.at.put_decimal-end-requires c in
     record {
-      fits_at = room_first (decimal c.args.n) c.args.after.now room_number;
+      fits_at = room_first _ _ (room_number at.After-put_bytes-number (room at.Else-not-fits));
       digits_value = c.width-digits.ensures;
     }
 
 pub put_bytes-requires : goal.put_bytes-requires
 put_bytes-requires c =
-    let rest : List ℕ = decimal c.args.n ++ c.args.after.now in
-    let front : List ℕ = c.args.before.now in
-    let room : FitsAt c.args.out.now c.args.at (front ++ rest) = let f = tells_yes _ c.fits.result c.if-not-fits.false c.fits.ensures in
-    record { fits = omega (arith, three_length c.args.before.now (decimal c.args.n) c.args.after.now) } in
-    let room_number : FitsAt c.put_bytes-number.new.out c.put_bytes-number.result rest =
-    room_then front rest room c.put_bytes-number.ensures c.put_bytes-number.auto.out in
-    room_then (decimal c.args.n) c.args.after.now room_number c.put_decimal-end.ensures c.put_decimal-end.auto.out
+    let at = goal.at.put_bytes-requires c in
+    room_then _ _ (room_number at.After-put_bytes-number (room at.Else-not-fits)) c.put_decimal-end.ensures c.put_decimal-end.auto.out
 
 pub returns : goal.returns
 returns c =
-    let front : List ℕ = c.args.before.now in
-    let rest : List ℕ = decimal c.args.n ++ c.args.after.now in
-    let room : FitsAt c.args.out.now c.args.at (front ++ rest) = let f = tells_yes _ c.fits.result c.if-not-fits.false c.fits.ensures in
-    record { fits = omega (arith, three_length c.args.before.now (decimal c.args.n) c.args.after.now) } in
-    let room_number : FitsAt c.put_bytes-number.new.out c.put_bytes-number.result rest =
-    room_then front rest room c.put_bytes-number.ensures c.put_bytes-number.auto.out in
-    let pair = put_answers room
-    (put_then front rest room c.put_bytes-number.ensures
-    (put_then (decimal c.args.n) c.args.after.now room_number c.put_decimal-end.ensures c.put_bytes.ensures)) in
+    let at = goal.at.returns c in
+    let r = room at.Else-not-fits in
+    let pair = put_answers r
+    (put_then _ _ r c.put_bytes-number.ensures
+    (put_then _ _ (room_number at.After-put_bytes-number r) c.put_decimal-end.ensures c.put_bytes.ensures)) in
     record { out_after = pair.0; value = pair.1 }

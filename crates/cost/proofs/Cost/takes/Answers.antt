@@ -5,7 +5,14 @@ use Rattle.show.proofs.Checks.{tells_yes, tells_no}
 use Rattle.cost.specs.Bound.{Limited}
 use Rattle.cost.specs.declared.worst.Worst.TheVariants.{Takes}
 use Rattle.cost.proofs.WorstTimes.{takes_undriven, takes_unlimited, takes_known}
+use Rattle.cost.proofs.Cost.takes.Goals.{Else-not-cylinder_within, Else-not-limited}
 use Rattle.cost.proofs.Cost.takes.Goals as goal
+
+driven : (c : Else-not-cylinder_within) → Between 1 c.args.cylinder 65536
+driven c = tells_yes _ c.cylinder_within.result c.if-not-cylinder_within.false c.cylinder_within.ensures
+
+limited : (c : Else-not-limited) → Limited c.args.self
+limited c = tells_yes _ c.limited.result c.if-not-limited.false c.limited.ensures
 
 pub returns-then-not-cylinder_within : goal.returns-then-not-cylinder_within
 returns-then-not-cylinder_within c =
@@ -13,19 +20,14 @@ returns-then-not-cylinder_within c =
 
 pub returns-then-not-limited : goal.returns-then-not-limited
 returns-then-not-limited c =
-    let driven : Between 1 c.args.cylinder 65536 = tells_yes _ c.cylinder_within.result c.if-not-cylinder_within.false c.cylinder_within.ensures in
-    sym
-    (takes_unlimited _ _ _ driven
+    sym (takes_unlimited _ _ _ (driven (goal.at.returns-then-not-limited c).Else-not-cylinder_within)
     (tells_no _ c.limited.result c.if-not-limited.true c.limited.ensures))
 
 pub time_of-requires : goal.time_of-requires
 time_of-requires c =
-    let limited : Limited c.args.self = tells_yes _ c.limited.result c.if-not-limited.false c.limited.ensures in
-    let driven : Between 1 c.args.cylinder 65536 = tells_yes _ c.cylinder_within.result c.if-not-cylinder_within.false c.cylinder_within.ensures in
-    (limited, driven.low)
+    (limited c, (driven (goal.at.time_of-requires c).Else-not-cylinder_within).low)
 
 pub returns : goal.returns
 returns c =
-    let driven : Between 1 c.args.cylinder 65536 = tells_yes _ c.cylinder_within.result c.if-not-cylinder_within.false c.cylinder_within.ensures in
-    let limited : Limited c.args.self = tells_yes _ c.limited.result c.if-not-limited.false c.limited.ensures in
-    ap Takes c.time_of.ensures ∙ sym (takes_known _ _ _ driven limited)
+    let at = goal.at.returns c in
+    ap Takes c.time_of.ensures ∙ sym (takes_known _ _ _ (driven at.Else-not-cylinder_within) (limited at.Else-not-limited))

@@ -2,14 +2,22 @@
 -- playing - k. Assumes nothing.
 use mathlib.Core.Path.{◌≡◌, sym, ◌∙◌}
 use native.Mathlib.Omega.{arith}
-use Rattle.show.specs.declared.Show.{Show}
 use Rattle.show.specs.declared.refusal.Refusal.TheVariants.{Counts, DriveLimits, LayoutLimits, SessionLimits}
 use Rattle.show.specs.Limits.{CountsWithin}
 use Rattle.show.specs.Decisions.{counts?, drive?, layout?, session?}
 use Rattle.show.specs.Checks.{first, layouts_check, sessions_check, show_check}
 use Rattle.show.proofs.Checks.{begun, body, stopped, ended, tells_yes, unless_kept, kept_if, broken_if, first_refused, first_within}
 use Rattle.show.proofs.Shows.{rows_left}
+use Rattle.show.proofs.Show.check.Goals.{Else-not-counts_within, Else-not-within}
 use Rattle.show.proofs.Show.check.Goals as goal
+
+counts : (c : Else-not-counts_within) → CountsWithin c.args.self.laid c.args.self.playing
+counts c = tells_yes _ c.counts_within.result c.if-not-counts_within.false c.counts_within.ensures
+
+rows :
+    (c : Else-not-within) → CountsWithin c.args.self.laid c.args.self.playing →
+    show_check c.args.self ≡ first (layouts_check c.args.self) (sessions_check c.args.self)
+rows c h = rows_left _ h (tells_yes _ c.within.result c.if-not-within.false c.within.ensures)
 
 pub returns-then-not-counts_within : goal.returns-then-not-counts_within
 unfolding show_check
@@ -19,9 +27,7 @@ returns-then-not-counts_within c =
 pub returns-then-not-within : goal.returns-then-not-within
 unfolding show_check
 returns-then-not-within c =
-    let show : Show = c.args.self in
-    let counts : CountsWithin show.laid show.playing = tells_yes _ c.counts_within.result c.if-not-counts_within.false c.counts_within.ensures in
-    sym (first_within _ _ (unless_kept (counts? _ _) Counts counts)
+    sym (first_within _ _ (unless_kept (counts? _ _) Counts (counts (goal.at.returns-then-not-within c).Else-not-counts_within))
     ∙ first_refused _ _ (broken_if (drive? _) DriveLimits c.within.result c.if-not-within.true c.within.ensures))
 
 pub loop-i-init : goal.loop-i-init
@@ -30,23 +36,16 @@ loop-i-init c =
 
 pub offset_bounds-self-i : goal.offset_bounds-self-i
 offset_bounds-self-i c =
-    let show : Show = c.args.self in
-    let counts : CountsWithin show.laid show.playing = tells_yes _ c.counts_within.result c.if-not-counts_within.false c.counts_within.ensures in
-    let h = counts.layouts.high in omega arith
+    let h = (counts (goal.at.offset_bounds-self-i c).Else-not-counts_within).layouts.high in omega arith
 
 pub bounds-self-i : goal.bounds-self-i
 bounds-self-i c =
-    let show : Show = c.args.self in
-    let counts : CountsWithin show.laid show.playing = tells_yes _ c.counts_within.result c.if-not-counts_within.false c.counts_within.ensures in
-    let h = counts.layouts.high in omega arith
+    let h = (counts (goal.at.bounds-self-i c).Else-not-counts_within).layouts.high in omega arith
 
 pub returns-then-not-within-2 : goal.returns-then-not-within-2
 returns-then-not-within-2 c =
-    let show : Show = c.args.self in
-    let counts : CountsWithin show.laid show.playing = tells_yes _ c.counts_within.result c.if-not-counts_within.false c.counts_within.ensures in
-    let rows : show_check show ≡ first (layouts_check show) (sessions_check show) = rows_left _ counts
-    (tells_yes _ c.within.result c.if-not-within.false c.within.ensures) in
-    sym (rows
+    let at = goal.at.returns-then-not-within-2 c in
+    sym (rows at.Else-not-within (counts at.Else-not-counts_within)
     ∙ first_refused _ _ (sym (stopped _ _ _ c.loop-i.invariant c.loop-i-test.true
     (broken_if (layout? _) (LayoutLimits _) c.within-in-loop-i.result c.if-not-within-2.true c.within-in-loop-i.ensures))))
 
@@ -61,23 +60,16 @@ loop-k-init c =
 
 pub offset_bounds-self-k : goal.offset_bounds-self-k
 offset_bounds-self-k c =
-    let show : Show = c.args.self in
-    let counts : CountsWithin show.laid show.playing = tells_yes _ c.counts_within.result c.if-not-counts_within.false c.counts_within.ensures in
-    let h = counts.sessions in omega arith
+    let h = (counts (goal.at.offset_bounds-self-k c).Else-not-counts_within).sessions in omega arith
 
 pub bounds-self-k : goal.bounds-self-k
 bounds-self-k c =
-    let show : Show = c.args.self in
-    let counts : CountsWithin show.laid show.playing = tells_yes _ c.counts_within.result c.if-not-counts_within.false c.counts_within.ensures in
-    let h = counts.sessions in omega arith
+    let h = (counts (goal.at.bounds-self-k c).Else-not-counts_within).sessions in omega arith
 
 pub returns-then-not-within-3 : goal.returns-then-not-within-3
 returns-then-not-within-3 c =
-    let show : Show = c.args.self in
-    let counts : CountsWithin show.laid show.playing = tells_yes _ c.counts_within.result c.if-not-counts_within.false c.counts_within.ensures in
-    let rows : show_check show ≡ first (layouts_check show) (sessions_check show) = rows_left _ counts
-    (tells_yes _ c.within.result c.if-not-within.false c.within.ensures) in
-    sym (rows
+    let at = goal.at.returns-then-not-within-3 c in
+    sym (rows at.Else-not-within (counts at.Else-not-counts_within)
     ∙ first_within _ _ (sym (ended _ _ _ c.loop-i.invariant c.loop-i-test.false))
     ∙ sym (stopped _ _ _ c.loop-k.invariant c.loop-k-test.true
     (broken_if (session? _ _) (SessionLimits _) c.within-in-loop-k.result c.if-not-within-3.true c.within-in-loop-k.ensures)))
@@ -89,10 +81,7 @@ loop-k-preserved c =
 
 pub returns : goal.returns
 returns c =
-    let show : Show = c.args.self in
-    let counts : CountsWithin show.laid show.playing = tells_yes _ c.counts_within.result c.if-not-counts_within.false c.counts_within.ensures in
-    let rows : show_check show ≡ first (layouts_check show) (sessions_check show) = rows_left _ counts
-    (tells_yes _ c.within.result c.if-not-within.false c.within.ensures) in
-    sym (rows
+    let at = goal.at.returns c in
+    sym (rows at.Else-not-within (counts at.Else-not-counts_within)
     ∙ first_within _ _ (sym (ended _ _ _ c.loop-i.invariant c.loop-i-test.false))
     ∙ sym (ended _ _ _ c.loop-k.invariant c.loop-k-test.false))

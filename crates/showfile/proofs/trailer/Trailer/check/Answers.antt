@@ -6,7 +6,14 @@ use Rattle.show.proofs.Checks.{tells_yes, tells_no}
 use Rattle.showfile.specs.Checks.{Distanced}
 use Rattle.showfile.proofs.Passed.{framed_check}
 use Rattle.showfile.proofs.Stops.{trailer_counts, trailer_distances, trailer_note}
+use Rattle.showfile.proofs.trailer.Trailer.check.Goals.{Else-not-counts_within, Else-not-distanced}
 use Rattle.showfile.proofs.trailer.Trailer.check.Goals as goal
+
+counts : (c : Else-not-counts_within) → CountsWithin c.args.self.laid c.args.self.playing
+counts c = tells_yes _ c.counts_within.result c.if-not-counts_within.false c.counts_within.ensures
+
+distances : (c : Else-not-distanced) → Distanced c.args.at c.args.self
+distances c = tells_yes _ c.distanced.result c.if-not-distanced.false c.distanced.ensures
 
 pub returns-then-not-counts_within : goal.returns-then-not-counts_within
 returns-then-not-counts_within c =
@@ -14,54 +21,39 @@ returns-then-not-counts_within c =
 
 pub distanced-requires : goal.distanced-requires
 distanced-requires c =
-    let counts : CountsWithin c.args.self.laid c.args.self.playing =
-    tells_yes _ c.counts_within.result c.if-not-counts_within.false c.counts_within.ensures in
-    counts
+    counts c
 
 pub returns-then-not-distanced : goal.returns-then-not-distanced
 returns-then-not-distanced c =
-    let counts : CountsWithin c.args.self.laid c.args.self.playing =
-    tells_yes _ c.counts_within.result c.if-not-counts_within.false c.counts_within.ensures in
-    trailer_distances _ _ counts (tells_no _ c.distanced.result c.if-not-distanced.true c.distanced.ensures)
+    trailer_distances _ _ (counts (goal.at.returns-then-not-distanced c).Else-not-counts_within)
+    (tells_no _ c.distanced.result c.if-not-distanced.true c.distanced.ensures)
 
 pub overflow_add-self : goal.overflow_add-self
 overflow_add-self c =
-    let counts : CountsWithin c.args.self.laid c.args.self.playing =
-    tells_yes _ c.counts_within.result c.if-not-counts_within.false c.counts_within.ensures in
-    let distances : Distanced c.args.at c.args.self = tells_yes _ c.distanced.result c.if-not-distanced.false c.distanced.ensures in
-    let k = counts in
-    let d = distances in
-    omega arith
+    let k = counts (goal.at.overflow_add-self c).Else-not-counts_within in omega arith
 
 pub overflow_mul-self : goal.overflow_mul-self
 overflow_mul-self c =
-    let counts : CountsWithin c.args.self.laid c.args.self.playing =
-    tells_yes _ c.counts_within.result c.if-not-counts_within.false c.counts_within.ensures in
-    let distances : Distanced c.args.at c.args.self = tells_yes _ c.distanced.result c.if-not-distanced.false c.distanced.ensures in
-    let k = counts in
-    let d = distances in
-    omega arith
+    let k = counts (goal.at.overflow_mul-self c).Else-not-counts_within in omega arith
 
 pub overflow_sub-at : goal.overflow_sub-at
 overflow_sub-at c =
-    let counts : CountsWithin c.args.self.laid c.args.self.playing =
-    tells_yes _ c.counts_within.result c.if-not-counts_within.false c.counts_within.ensures in
-    let distances : Distanced c.args.at c.args.self = tells_yes _ c.distanced.result c.if-not-distanced.false c.distanced.ensures in
-    let k = counts in
-    let d = distances in
+    let at = goal.at.overflow_sub-at c in
+    let k = counts at.Else-not-counts_within in
+    let d = distances at.Else-not-distanced in
     omega arith
 
 pub returns-then-not-note_within : goal.returns-then-not-note_within
 returns-then-not-note_within c =
-    let counts : CountsWithin c.args.self.laid c.args.self.playing =
-    tells_yes _ c.counts_within.result c.if-not-counts_within.false c.counts_within.ensures in
-    let distances : Distanced c.args.at c.args.self = tells_yes _ c.distanced.result c.if-not-distanced.false c.distanced.ensures in
-    trailer_note _ _ counts distances (tells_no _ c.note_within.result c.if-not-note_within.true c.note_within.ensures)
+    let at = goal.at.returns-then-not-note_within c in
+    trailer_note _ _ (counts at.Else-not-counts_within) (distances at.Else-not-distanced)
+    (tells_no _ c.note_within.result c.if-not-note_within.true c.note_within.ensures)
 
 pub returns : goal.returns
 returns c =
-    let counts : CountsWithin c.args.self.laid c.args.self.playing =
-    tells_yes _ c.counts_within.result c.if-not-counts_within.false c.counts_within.ensures in
-    let distances : Distanced c.args.at c.args.self = tells_yes _ c.distanced.result c.if-not-distanced.false c.distanced.ensures in
-    let note = tells_yes _ c.note_within.result c.if-not-note_within.false c.note_within.ensures in
-    sym (framed_check _ _ (record { counts = counts; distances = distances; note = note }))
+    let at = goal.at.returns c in
+    sym (framed_check _ _ (record {
+      counts = counts at.Else-not-counts_within;
+      distances = distances at.Else-not-distanced;
+      note = tells_yes _ c.note_within.result c.if-not-note_within.false c.note_within.ensures;
+    }))
