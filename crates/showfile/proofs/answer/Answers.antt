@@ -1,5 +1,4 @@
 -- `answer` puts zeros where a check is refused. Assumes nothing.
-use borrow.Author.Rules.{rules}
 use Rattle.showfile.proofs.answer.Goals as goal
 
 pub returns-in-Refused : goal.returns-in-Refused

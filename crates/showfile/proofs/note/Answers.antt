@@ -3,7 +3,6 @@ use mathlib.Core.Path.{ap}
 use lib.ListN.{take}
 use Rattle.showfile.specs.declared.Reading.{Reading}
 use Rattle.showfile.proofs.Sizes.{note_part}
-use borrow.Author.Rules.{rules}
 use Rattle.showfile.proofs.note.Goals as goal
 
 pub slice_bounds-result-end : goal.slice_bounds-result-end

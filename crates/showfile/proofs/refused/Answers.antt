@@ -1,5 +1,4 @@
 -- A refusal has zeros beside it. Assumes nothing.
-use borrow.Author.Rules.{rules}
 use Rattle.showfile.proofs.refused.Goals as goal
 
 pub returns : goal.returns

@@ -2,7 +2,6 @@
 use Rattle.standing.proofs.Standings.{trial_times, surveyed}
 use mathlib.Core.Path.{◌∙◌}
 use Rattle.order.proofs.Orders.{placed_few}
-use borrow.Author.Rules.{rules}
 use Rattle.standing.proofs.survey.Goals as goal
 
 pub aheads-aheads-requires : goal.aheads-aheads-requires

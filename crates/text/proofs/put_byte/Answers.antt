@@ -1,6 +1,5 @@
 -- One byte. Assumes nothing.
 use Rattle.text.proofs.Puts.{put_one}
-use borrow.Author.Rules.{rules}
 use Rattle.text.proofs.put_byte.Goals as goal
 
 pub returns : goal.returns

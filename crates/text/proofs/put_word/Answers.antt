@@ -1,6 +1,5 @@
 -- No room, or the bytes. Assumes nothing.
 use native.Mathlib.Omega.{arith}
-use borrow.Author.Rules.{rules}
 use Rattle.show.proofs.Checks.{tells_yes, tells_no}
 use Rattle.text.proofs.Puts.{put_answers, no_room}
 use Rattle.text.proofs.put_word.Goals as goal

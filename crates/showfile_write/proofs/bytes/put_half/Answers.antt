@@ -3,7 +3,6 @@ use native.Mathlib.Omega.{arith}
 use lib.ListN.{length-set}
 use Rattle.showfile.specs.Bytes.{half_bytes}
 use Rattle.showfile_write.proofs.ByteLaws.{two_over}
-use borrow.Author.Rules.{rules}
 use Rattle.showfile_write.proofs.bytes.put_half.Goals as goal
 
 pub bounds-b-at-2 : goal.bounds-b-at-2

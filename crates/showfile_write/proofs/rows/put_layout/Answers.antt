@@ -1,6 +1,5 @@
 -- `put_layout` writes four words. Assumes nothing.
 use Rattle.showfile.specs.File.{layout_bytes}
-use borrow.Author.Rules.{rules}
 use Rattle.showfile_write.proofs.rows.put_layout.Goals as goal
 
 pub returns : goal.returns

@@ -1,6 +1,5 @@
 -- `put_session` writes four words. Assumes nothing.
 use Rattle.showfile.specs.File.{session_bytes}
-use borrow.Author.Rules.{rules}
 use Rattle.showfile_write.proofs.rows.put_session.Goals as goal
 
 pub returns : goal.returns

@@ -4,7 +4,6 @@ use native.Mathlib.Omega.{arith}
 use mir.Syntax.{w64}
 use mir.Facts.{to_z-of_z, to_z_pos}
 use Rattle.standing.proofs.Standings.{less_small}
-use borrow.Author.Rules.{rules}
 use Rattle.standing.proofs.least.net.Goals as goal
 
 pub overflow_sub-result : goal.overflow_sub-result
