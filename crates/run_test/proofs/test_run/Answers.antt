@@ -9,7 +9,7 @@ use Rattle.theory.specs.Shows.{load_of}
 use Rattle.verdict.specs.Answers.{set_of}
 use Rattle.run.specs.Run.{seat_at}
 use Rattle.run.proofs.Orders.{names_below}
-use Rattle.run_test.proofs.Tests.{trial_good, trial_bad, states_none, states_more, states_all}
+use Rattle.run_test.proofs.Tests.{trial_good, trial_bad, states_more, states_all}
 use Rattle.run_test.proofs.Tests.{cycle_rests, cycle_nowhere, cycle_reads, test_damaged, test_cycle}
 use Rattle.run_test.proofs.test_run.Goals.{In-Holds, Else-not-turns}
 use Rattle.run_test.proofs.test_run.Goals as goal
@@ -31,9 +31,6 @@ seat_few c h =
 pub returns-in_default : goal.returns-in_default
 returns-in_default c =
     test_damaged _ (λ s. trial_bad _ _ _ c.tried-trial.ensures c.in_default.not-Holds s.within s.counts)
-
-pub loop-i-init : goal.loop-i-init
-loop-i-init c = states_none _
 
 pub offset_bounds-run-i : goal.offset_bounds-run-i
 offset_bounds-run-i c = let h = few (goal.at.offset_bounds-run-i c).In-Holds in omega arith

@@ -27,9 +27,6 @@ returns-then-run-eq0 c =
 pub loop-k-init : goal.loop-k-init
 loop-k-init c = skips_none _
 
-pub overflow_add-at : goal.overflow_add-at
-overflow_add-at c = let s = seated c in omega arith
-
 pub offset_bounds-run-at : goal.offset_bounds-run-at
 offset_bounds-run-at c = let b = onward_few _ (seated c) c.loop-k.k in omega arith
 
