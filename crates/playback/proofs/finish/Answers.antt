@@ -1,14 +1,19 @@
 -- `finish` lets time go by and stores the block. Assumes nothing.
+use Prim.Native.Nat.{◌<◌}
 use mathlib.Core.Path.{◌≡◌}
 use native.Mathlib.Omega.{arith}
 use lib.ListN.{length}
 use Rattle.show.proofs.Lists.{unmapped}
-use Rattle.run.specs.Sound.{SoundRun}
 use Rattle.run_test.proofs.Tests.{tested_sound, tested_damaged}
 use Rattle.playback.proofs.Clocks.{sound_clocked}
 use Rattle.playback.proofs.Calls.{finish_damaged, finish_long, finish_nothing, finish_counted, read_few, read_seated, advanced_put}
 use borrow.Author.Rules.{rules}
+use Rattle.playback.proofs.finish.Goals.{After-advance-states}
 use Rattle.playback.proofs.finish.Goals as goal
+
+-- The session read is one of the 16.
+few : (c : After-advance-states) → c.in-Read.session < 16
+few c = read_few _ (tested_sound _ _ c.test_run.ensures c.in-Sound.is) _ c.in-Read.is
 
 pub returns-in_default : goal.returns-in_default
 returns-in_default c =
@@ -23,49 +28,38 @@ returns-in_default-underway c =
     finish_nothing _ _ (tested_sound _ _ c.test_run.ensures c.in-Sound.is) c.if-d-gt-SPAN_MOST.false c.in_default-underway.is
 
 pub advance-states-requires : goal.advance-states-requires
-advance-states-requires c =
-    let sound : SoundRun c.args.run = tested_sound _ _ c.test_run.ensures c.in-Sound.is in
-    record {
-      clocked = sound_clocked _ sound;
-      d_le_span_most = c.if-d-gt-SPAN_MOST.false;
-    }
+advance-states-requires c = record {
+  clocked = sound_clocked _ (tested_sound _ _ c.test_run.ensures c.in-Sound.is);
+  d_le_span_most = c.if-d-gt-SPAN_MOST.false;
+}
 
 pub offset_bounds-states-session : goal.offset_bounds-states-session
-offset_bounds-states-session c =
-    let sound : SoundRun c.args.run = tested_sound _ _ c.test_run.ensures c.in-Sound.is in
-    let b = read_few _ sound _ c.in-Read.is in omega arith
+offset_bounds-states-session c = let b = few c in omega arith
 
 pub bounds-states-session : goal.bounds-states-session
-bounds-states-session c =
-    let sound : SoundRun c.args.run = tested_sound _ _ c.test_run.ensures c.in-Sound.is in
-    read_few _ sound _ c.in-Read.is
+bounds-states-session c = few c
 
 pub fill-requires : goal.fill-requires
 fill-requires c =
-    let sized_first : length c.args.run.states ≡ 16 = search (unmapped, rules) in
-    let sized : length c.args.run.states ≡ 16 = sized_first in
-    let sound : SoundRun c.args.run = tested_sound _ _ c.test_run.ensures c.in-Sound.is in
+    let sized : length c.args.run.states ≡ 16 = search (unmapped, rules) in
+    let sound = tested_sound _ _ c.test_run.ensures c.in-Sound.is in
     let p = advanced_put _ _ _ _ sized sound c.in-Read.is c.advance-states.ensures in
     omega arith
 
 pub offset_bounds-states-session-2 : goal.offset_bounds-states-session-2
 offset_bounds-states-session-2 c =
-    let sound : SoundRun c.args.run = tested_sound _ _ c.test_run.ensures c.in-Sound.is in
-    let b = read_few _ sound _ c.in-Read.is in omega arith
+    let b = few (goal.at.offset_bounds-states-session-2 c).After-advance-states in omega arith
 
 pub bounds-states-session-2 : goal.bounds-states-session-2
-bounds-states-session-2 c =
-    let sound : SoundRun c.args.run = tested_sound _ _ c.test_run.ensures c.in-Sound.is in
-    read_few _ sound _ c.in-Read.is
+bounds-states-session-2 c = few (goal.at.bounds-states-session-2 c).After-advance-states
 
 pub place_after-place-requires : goal.place_after-place-requires
 place_after-place-requires c =
-    let sound : SoundRun c.args.run = tested_sound _ _ c.test_run.ensures c.in-Sound.is in
-    (read_seated _ sound _ c.in-Read.is).place
+    (read_seated _ (tested_sound _ _ c.test_run.ensures c.in-Sound.is) _ c.in-Read.is).place
 
 pub returns : goal.returns
 returns c =
-    let sound : SoundRun c.args.run = tested_sound _ _ c.test_run.ensures c.in-Sound.is in
+    let sound = tested_sound _ _ c.test_run.ensures c.in-Sound.is in
     rw c.fill.ensures
     (finish_counted _ _ sound c.if-d-gt-SPAN_MOST.false _ _ _ _ _ c.in-Read.is c.advance-states.ensures c.place_after-place.ensures
     c.left_in.ensures c.count_off.ensures)

@@ -7,208 +7,104 @@ use Rattle.show.proofs.Checks.{tells_yes, tells_no}
 use Rattle.theory.specs.Counts.{Good}
 use Rattle.theory.specs.Shows.{load_of}
 use Rattle.verdict.specs.Answers.{set_of}
-use Rattle.run.specs.declared.Run.{Run}
 use Rattle.run.specs.Run.{seat_at}
-use Rattle.run.specs.Sound.{NamesEach}
 use Rattle.run.proofs.Orders.{names_below}
-use Rattle.run_test.specs.Steps.{AtPlace}
-use Rattle.run_test.proofs.Tests.{trial_good, trial_bad, states_none, states_more, states_all}
+use Rattle.run_test.proofs.Tests.{trial_good, trial_bad, states_more, states_all}
 use Rattle.run_test.proofs.Tests.{cycle_rests, cycle_nowhere, cycle_reads, test_damaged, test_cycle}
+use Rattle.run_test.proofs.test_run.Goals.{In-Holds, Else-not-turns}
 use Rattle.run_test.proofs.test_run.Goals as goal
+
+-- The show is in its limits, and the counts are good for it.
+good : (c : In-Holds) → ShowWithin c.args.run.show × Good (load_of c.args.run.show) (set_of c.args.run.counts)
+good c = trial_good _ _ _ c.tried-trial.ensures c.in-Holds.is
+
+few : (c : In-Holds) → c.args.run.show.playing ≤ 16
+few c = (good c).0.counts.sessions
+
+-- The session at the cycle's place is one of the 16.
+seat_few : (c : Else-not-turns) → c.args.run.show.playing ≤ 16 → seat_at c.args.run c.args.run.place < 16
+seat_few c h =
+    let place = tells_yes _ _ c.if-not-turns.false c.turns.ensures in
+    let names = tells_yes _ _ c.if-not-names_each.false c.names_each.ensures in
+    let b = names_below _ _ names _ place.inside in omega arith
 
 pub returns-in_default : goal.returns-in_default
 returns-in_default c =
-    test_damaged _
-    (λ s.
-    trial_bad _ _ _ c.tried-trial.ensures c.in_default.not-Holds s.within s.counts)
-
-pub loop-i-init : goal.loop-i-init
-loop-i-init c =
-    states_none _
+    test_damaged _ (λ s. trial_bad _ _ _ c.tried-trial.ensures c.in_default.not-Holds s.within s.counts)
 
 pub offset_bounds-run-i : goal.offset_bounds-run-i
-offset_bounds-run-i c =
-    let given : Run = c.args.run in
-    let good : ShowWithin given.show × Good (load_of given.show) (set_of given.counts) = trial_good _ _ _ c.tried-trial.ensures c.in-Holds.is in
-    let few : given.show.playing ≤ 16 = good.0.counts.sessions in
-    let h = few in omega arith
+offset_bounds-run-i c = let h = few (goal.at.offset_bounds-run-i c).In-Holds in omega arith
 
 pub bounds-run-i : goal.bounds-run-i
-bounds-run-i c =
-    let given : Run = c.args.run in
-    let good : ShowWithin given.show × Good (load_of given.show) (set_of given.counts) = trial_good _ _ _ c.tried-trial.ensures c.in-Holds.is in
-    let few : given.show.playing ≤ 16 = good.0.counts.sessions in
-    let h = few in omega arith
+bounds-run-i c = let h = few (goal.at.bounds-run-i c).In-Holds in omega arith
 
 pub offset_bounds-show-i : goal.offset_bounds-show-i
-offset_bounds-show-i c =
-    let given : Run = c.args.run in
-    let good : ShowWithin given.show × Good (load_of given.show) (set_of given.counts) = trial_good _ _ _ c.tried-trial.ensures c.in-Holds.is in
-    let few : given.show.playing ≤ 16 = good.0.counts.sessions in
-    let h = few in omega arith
+offset_bounds-show-i c = let h = few (goal.at.offset_bounds-show-i c).In-Holds in omega arith
 
 pub bounds-show-i : goal.bounds-show-i
-bounds-show-i c =
-    let given : Run = c.args.run in
-    let good : ShowWithin given.show × Good (load_of given.show) (set_of given.counts) = trial_good _ _ _ c.tried-trial.ensures c.in-Holds.is in
-    let few : given.show.playing ≤ 16 = good.0.counts.sessions in
-    let h = few in omega arith
+bounds-show-i c = let h = few (goal.at.bounds-show-i c).In-Holds in omega arith
 
 pub returns-then-not-within : goal.returns-then-not-within
 returns-then-not-within c =
-    test_damaged _ (λ s. tells_no _ c.within.result c.if-not-within.true c.within.ensures (s.states _ c.loop-i-test.true))
-
-pub overflow_add-i : goal.overflow_add-i
-overflow_add-i c =
-    omega arith
-
-pub loop-i-smaller : goal.loop-i-smaller
-loop-i-smaller c =
-    omega arith
+    test_damaged _ (λ s. tells_no _ _ c.if-not-within.true c.within.ensures (s.states _ c.loop-i-test.true))
 
 pub loop-i-preserved : goal.loop-i-preserved
 loop-i-preserved c =
-    states_more _ _ c.loop-i.invariant c.loop-i-test.true
-    (tells_yes _ c.within.result c.if-not-within.false c.within.ensures)
+    states_more _ _ c.loop-i.invariant c.loop-i-test.true (tells_yes _ _ c.if-not-within.false c.within.ensures)
 
 pub names_each-requires : goal.names_each-requires
-names_each-requires c =
-    let given : Run = c.args.run in
-    let good : ShowWithin given.show × Good (load_of given.show) (set_of given.counts) = trial_good _ _ _ c.tried-trial.ensures c.in-Holds.is in
-    let few : given.show.playing ≤ 16 = good.0.counts.sessions in
-    few
+names_each-requires c = few (goal.at.names_each-requires c).In-Holds
 
 pub returns-then-not-names_each : goal.returns-then-not-names_each
 returns-then-not-names_each c =
-    test_damaged _ (λ s. tells_no _ c.names_each.result c.if-not-names_each.true c.names_each.ensures s.order)
+    test_damaged _ (λ s. tells_no _ _ c.if-not-names_each.true c.names_each.ensures s.order)
 
 pub returns-then-show-eq0 : goal.returns-then-show-eq0
 returns-then-show-eq0 c =
-    let given : Run = c.args.run in
-    let good : ShowWithin given.show × Good (load_of given.show) (set_of given.counts) = trial_good _ _ _ c.tried-trial.ensures c.in-Holds.is in
-    let names : NamesEach given.order given.show.playing = tells_yes _ c.names_each.result c.if-not-names_each.false c.names_each.ensures in
-    let g = good in
+    let g = good (goal.at.returns-then-show-eq0 c).In-Holds in
     let states = states_all _ _ c.loop-i.invariant c.loop-i-test.false in
-    let cycle = cycle_rests _ c.if-show-eq0.true c.rests.result c.rests.ensures in
-    c.told.ensures ∙ test_cycle _ g.0 g.1 states names c.rests.result cycle
+    let names = tells_yes _ _ c.if-not-names_each.false c.names_each.ensures in
+    c.told.ensures ∙ test_cycle _ g.0 g.1 states names _ (cycle_rests _ c.if-show-eq0.true _ c.rests.ensures)
 
 pub turns-requires : goal.turns-requires
-turns-requires c =
-    let given : Run = c.args.run in
-    let good : ShowWithin given.show × Good (load_of given.show) (set_of given.counts) = trial_good _ _ _ c.tried-trial.ensures c.in-Holds.is in
-    let few : given.show.playing ≤ 16 = good.0.counts.sessions in
-    let names : NamesEach given.order given.show.playing = tells_yes _ c.names_each.result c.if-not-names_each.false c.names_each.ensures in
-    record {
-      playing_bound = few;
-      names_each = names;
-    }
+turns-requires c = record {
+  playing_bound = few (goal.at.turns-requires c).In-Holds;
+  names_each = tells_yes _ _ c.if-not-names_each.false c.names_each.ensures;
+}
 
 pub returns-then-not-turns : goal.returns-then-not-turns
 returns-then-not-turns c =
-    let nowhere = tells_no _ c.turns.result c.if-not-turns.true c.turns.ensures in
+    let nowhere = tells_no _ _ c.if-not-turns.true c.turns.ensures in
     test_damaged _ (λ s. cycle_nowhere _ c.if-show-eq0.false nowhere s.cycle)
 
 pub offset_bounds-order-place : goal.offset_bounds-order-place
 offset_bounds-order-place c =
-    let given : Run = c.args.run in
-    let whole : Run = given in
-    let placed : AtPlace whole.order whole.counts whole.show.playing whole.place whole.left =
-    tells_yes _ c.turns.result c.if-not-turns.false c.turns.ensures in
-    let good : ShowWithin given.show × Good (load_of given.show) (set_of given.counts) = trial_good _ _ _ c.tried-trial.ensures c.in-Holds.is in
-    let few : given.show.playing ≤ 16 = good.0.counts.sessions in
-    let place_few : whole.place < 16 = let p = placed.inside in let h = few in omega arith in
-    let b = place_few in omega arith
+    let p = (tells_yes _ _ c.if-not-turns.false c.turns.ensures).inside in
+    let h = few (goal.at.offset_bounds-order-place c).In-Holds in omega arith
 
 pub bounds-order-place : goal.bounds-order-place
 bounds-order-place c =
-    let given : Run = c.args.run in
-    let whole : Run = given in
-    let placed : AtPlace whole.order whole.counts whole.show.playing whole.place whole.left =
-    tells_yes _ c.turns.result c.if-not-turns.false c.turns.ensures in
-    let good : ShowWithin given.show × Good (load_of given.show) (set_of given.counts) = trial_good _ _ _ c.tried-trial.ensures c.in-Holds.is in
-    let few : given.show.playing ≤ 16 = good.0.counts.sessions in
-    let place_few : whole.place < 16 = let p = placed.inside in let h = few in omega arith in
-    place_few
-
-pub overflow_cast-seat : goal.overflow_cast-seat
-overflow_cast-seat c =
-    let given : Run = c.args.run in
-    let whole : Run = given in
-    let names : NamesEach given.order given.show.playing = tells_yes _ c.names_each.result c.if-not-names_each.false c.names_each.ensures in
-    let placed : AtPlace whole.order whole.counts whole.show.playing whole.place whole.left =
-    tells_yes _ c.turns.result c.if-not-turns.false c.turns.ensures in
-    let good : ShowWithin given.show × Good (load_of given.show) (set_of given.counts) = trial_good _ _ _ c.tried-trial.ensures c.in-Holds.is in
-    let few : given.show.playing ≤ 16 = good.0.counts.sessions in
-    let seat_few : seat_at whole whole.place < 16 = let b = names_below _ _ names _ placed.inside in
-    let h = few in
-    omega arith in
-    let b = seat_few in omega arith
+    let p = (tells_yes _ _ c.if-not-turns.false c.turns.ensures).inside in
+    let h = few (goal.at.bounds-order-place c).In-Holds in omega arith
 
 pub offset_bounds-run-seat : goal.offset_bounds-run-seat
-offset_bounds-run-seat c =
-    let given : Run = c.args.run in
-    let whole : Run = given in
-    let names : NamesEach given.order given.show.playing = tells_yes _ c.names_each.result c.if-not-names_each.false c.names_each.ensures in
-    let placed : AtPlace whole.order whole.counts whole.show.playing whole.place whole.left =
-    tells_yes _ c.turns.result c.if-not-turns.false c.turns.ensures in
-    let good : ShowWithin given.show × Good (load_of given.show) (set_of given.counts) = trial_good _ _ _ c.tried-trial.ensures c.in-Holds.is in
-    let few : given.show.playing ≤ 16 = good.0.counts.sessions in
-    let seat_few : seat_at whole whole.place < 16 = let b = names_below _ _ names _ placed.inside in
-    let h = few in
-    omega arith in
-    let b = seat_few in omega arith
+offset_bounds-run-seat c = let b = seat_few c (few (goal.at.offset_bounds-run-seat c).In-Holds) in omega arith
 
 pub bounds-run-seat : goal.bounds-run-seat
-bounds-run-seat c =
-    let given : Run = c.args.run in
-    let whole : Run = given in
-    let names : NamesEach given.order given.show.playing = tells_yes _ c.names_each.result c.if-not-names_each.false c.names_each.ensures in
-    let placed : AtPlace whole.order whole.counts whole.show.playing whole.place whole.left =
-    tells_yes _ c.turns.result c.if-not-turns.false c.turns.ensures in
-    let good : ShowWithin given.show × Good (load_of given.show) (set_of given.counts) = trial_good _ _ _ c.tried-trial.ensures c.in-Holds.is in
-    let few : given.show.playing ≤ 16 = good.0.counts.sessions in
-    let seat_few : seat_at whole whole.place < 16 = let b = names_below _ _ names _ placed.inside in
-    let h = few in
-    omega arith in
-    seat_few
+bounds-run-seat c = seat_few c (few (goal.at.bounds-run-seat c).In-Holds)
 
 pub offset_bounds-show-seat : goal.offset_bounds-show-seat
 offset_bounds-show-seat c =
-    let given : Run = c.args.run in
-    let whole : Run = given in
-    let names : NamesEach given.order given.show.playing = tells_yes _ c.names_each.result c.if-not-names_each.false c.names_each.ensures in
-    let placed : AtPlace whole.order whole.counts whole.show.playing whole.place whole.left =
-    tells_yes _ c.turns.result c.if-not-turns.false c.turns.ensures in
-    let good : ShowWithin given.show × Good (load_of given.show) (set_of given.counts) = trial_good _ _ _ c.tried-trial.ensures c.in-Holds.is in
-    let few : given.show.playing ≤ 16 = good.0.counts.sessions in
-    let seat_few : seat_at whole whole.place < 16 = let b = names_below _ _ names _ placed.inside in
-    let h = few in
-    omega arith in
-    let b = seat_few in omega arith
+    let p = goal.at.offset_bounds-show-seat c in let b = seat_few p.Else-not-turns (few p.In-Holds) in omega arith
 
 pub bounds-show-seat : goal.bounds-show-seat
-bounds-show-seat c =
-    let given : Run = c.args.run in
-    let whole : Run = given in
-    let names : NamesEach given.order given.show.playing = tells_yes _ c.names_each.result c.if-not-names_each.false c.names_each.ensures in
-    let placed : AtPlace whole.order whole.counts whole.show.playing whole.place whole.left =
-    tells_yes _ c.turns.result c.if-not-turns.false c.turns.ensures in
-    let good : ShowWithin given.show × Good (load_of given.show) (set_of given.counts) = trial_good _ _ _ c.tried-trial.ensures c.in-Holds.is in
-    let few : given.show.playing ≤ 16 = good.0.counts.sessions in
-    let seat_few : seat_at whole whole.place < 16 = let b = names_below _ _ names _ placed.inside in
-    let h = few in
-    omega arith in
-    seat_few
+bounds-show-seat c = let p = goal.at.bounds-show-seat c in seat_few p.Else-not-turns (few p.In-Holds)
 
 pub returns : goal.returns
 returns c =
-    let given : Run = c.args.run in
-    let good : ShowWithin given.show × Good (load_of given.show) (set_of given.counts) = trial_good _ _ _ c.tried-trial.ensures c.in-Holds.is in
-    let whole : Run = given in
-    let placed : AtPlace whole.order whole.counts whole.show.playing whole.place whole.left =
-    tells_yes _ c.turns.result c.if-not-turns.false c.turns.ensures in
-    let names : NamesEach given.order given.show.playing = tells_yes _ c.names_each.result c.if-not-names_each.false c.names_each.ensures in
-    let g = good in
+    let g = good (goal.at.returns c).In-Holds in
     let states = states_all _ _ c.loop-i.invariant c.loop-i-test.false in
-    let cycle = cycle_reads _ c.if-show-eq0.false placed c.may_read.result c.may_read.ensures in
-    c.told-2.ensures ∙ test_cycle _ g.0 g.1 states names c.may_read.result cycle
+    let names = tells_yes _ _ c.if-not-names_each.false c.names_each.ensures in
+    let place = tells_yes _ _ c.if-not-turns.false c.turns.ensures in
+    let cycle = cycle_reads _ c.if-show-eq0.false place _ c.may_read.ensures in
+    c.told-2.ensures ∙ test_cycle _ g.0 g.1 states names _ cycle
