@@ -1,7 +1,6 @@
 -- `tick` moves a clock on, as far as its G. Assumes nothing.
 use native.Mathlib.Omega.{arith}
 use Rattle.playback.proofs.Clocks.{moves_few, ticks_free, ticks_caught}
-use borrow.Author.Rules.{rules}
 use Rattle.playback.proofs.tick.Goals as goal
 
 pub overflow_mul-clock : goal.overflow_mul-clock

@@ -1,7 +1,6 @@
 -- `takes_one` tells whether a block has room and keeps to the limit on P. Assumes nothing.
 use native.Mathlib.Omega.{arith}
 use Rattle.show.proofs.Checks.{tells_yes, tells_no}
-use borrow.Author.Rules.{rules}
 use Rattle.run_test.proofs.takes_one.Goals as goal
 
 pub returns-then-not-room : goal.returns-then-not-room

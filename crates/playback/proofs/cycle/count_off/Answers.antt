@@ -1,6 +1,5 @@
 -- `count_off` counts a block off, or is the next operation's. Assumes nothing.
 use Rattle.playback.proofs.Cycles.{left_fewer, left_fresh}
-use borrow.Author.Rules.{rules}
 use Rattle.playback.proofs.cycle.count_off.Goals as goal
 
 pub returns-then-left-gt1 : goal.returns-then-left-gt1

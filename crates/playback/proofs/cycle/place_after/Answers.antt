@@ -1,6 +1,5 @@
 -- `place_after` stays while blocks are left, then goes on by one, and after the last to the first. Assumes nothing.
 use Rattle.playback.proofs.Cycles.{place_stays, place_on, place_first}
-use borrow.Author.Rules.{rules}
 use Rattle.playback.proofs.cycle.place_after.Goals as goal
 
 pub returns-then-left-gt1 : goal.returns-then-left-gt1
