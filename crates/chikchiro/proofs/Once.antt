@@ -1,9 +1,9 @@
 -- Each call has one answer, and leaves one state of the slices. Assumes nothing.
+use Rattle.std.specs.Prelude.{Err, Result, Option}
 use Prim.Native.Nat.{ℕ}
 use mathlib.Core.Path.{◌≡◌, refl, sym, ap, ◌∙◌}
 use mathlib.Core.List.{List}
 use Rattle.show.specs.declared.refusal.Refusal.{Refusal}
-use Rattle.show.specs.declared.refusal.Check.TheVariants as check
 use Rattle.show.proofs.Checks.{within_refused}
 use Rattle.showfile.specs.declared.Written.{Written}
 use Rattle.showfile.specs.Answers.{read_of}
@@ -34,8 +34,8 @@ reported_once f b m n x y (reported r _ h) (reported s _ g) =
     let e = report_once f b r s x y h g in (ap (λ (w : Written). w.len) e.0, e.1)
 
 -- of two readings, the refusals
-same_refusal : (f : List ℕ) (v w : Refusal) → (read_of f).check ≡ check.Refused v → (read_of f).check ≡ check.Refused w → v ≡ w
-same_refusal f v w p q = let e : check.Refused v ≡ check.Refused w = sym p ∙ q in let same : v ≡ w = cc in same
+same_refusal : (f : List ℕ) (v w : Refusal) → (read_of f).check ≡ Err v → (read_of f).check ≡ Err w → v ≡ w
+same_refusal f v w p q = let e : Err v ≡ Err w = sym p ∙ q in let same : v ≡ w = cc in same
 
 file_decision_once : (f : List ℕ) (d e : Decision) → FileDecisionIs f d → FileDecisionIs f e → d ≡ e
 file_decision_once f d e (answers.read _ p h) (answers.read _ q g) = decision_once (read_of f).show d e h g
@@ -51,15 +51,15 @@ decided_once f b m n x y (answers.decided d k h) (answers.decided e l g) =
     let s = file_decision_once f d e h g in
     (ap (λ (z : Decision). verdict_code z.verdict) s, ap (λ (z : Decision). filled_by z.verdict z b) s)
 
-file_reason_once : (f : List ℕ) (p q : Reason) → FileReasonIs f p → FileReasonIs f q → p ≡ q
+file_reason_once : (f : List ℕ) (p q : (Result (Option Reason) Refusal)) → FileReasonIs f p → FileReasonIs f q → p ≡ q
 file_reason_once f p q (answers.read _ e h) (answers.read _ g k) = reason_once (read_of f).show p q h k
 file_reason_once f p q (answers.read _ e h) (answers.unread w g) = within_refused (sym e ∙ g)
 file_reason_once f p q (answers.unread v e) (answers.read _ g k) = within_refused (sym g ∙ e)
-file_reason_once f p q (answers.unread v e) (answers.unread w g) = ap reason.Refused (same_refusal f v w e g)
+file_reason_once f p q (answers.unread v e) (answers.unread w g) = ap Err (same_refusal f v w e g)
 
 pub reasoned_once : (f b : List ℕ) (m n : ℕ) (x y : List ℕ) → ReasonedIs f b m x → ReasonedIs f b n y → (m ≡ n) × (x ≡ y)
 reasoned_once f b m n x y (answers.short l) (answers.short k) = (refl, refl)
 reasoned_once f b m n x y (answers.short l) (answers.reasoned p k h) = absurd (l k)
 reasoned_once f b m n x y (answers.reasoned p k h) (answers.short l) = absurd (l k)
 reasoned_once f b m n x y (answers.reasoned p k h) (answers.reasoned q l g) =
-    let s = file_reason_once f p q h g in (ap reason_code s, ap (λ (z : Reason). reason_over z b) s)
+    let s = file_reason_once f p q h g in (ap reason_code s, ap (λ (z : (Result (Option Reason) Refusal)). reason_over z b) s)

@@ -1,14 +1,12 @@
 -- What the calls for C answer, and what the lent slices then hold.
-use Rattle.std.specs.Prelude.{ℕ, ◌+◌, ◌*◌, ◌≤◌, ◌≡◌, List, [], ◌∷◌, length}
+use Rattle.std.specs.Prelude.{ℕ, ◌+◌, ◌*◌, ◌≤◌, ◌≡◌, List, [], ◌∷◌, length, Ok, Err, Some, None, Result, Option}
+use Rattle.show.specs.Outcomes.{Check}
 use Rattle.show.specs.declared.refusal.Refusal.{Refusal}
 use Rattle.show.specs.declared.refusal.Refusal.TheVariants.{BufferShort}
-use Rattle.show.specs.declared.refusal.Check.TheVariants as check
 use Rattle.show.specs.Refusals.{number_of, place_of}
 use Rattle.showfile.specs.declared.Written.{Written}
 use Rattle.showfile.specs.Answers.{read_of}
 use Rattle.showfile.specs.Bytes.{over}
-use Rattle.verdict.specs.declared.Verdict.{Verdict}
-use Rattle.verdict.specs.declared.Verdict.TheVariants as verdict
 use Rattle.verdict.specs.declared.Decision.{Decision}
 use Rattle.verdict.specs.Answers.{DecisionIs, refused_for}
 use Rattle.reason.specs.declared.Reason.{Reason}
@@ -30,8 +28,8 @@ pub data ReportedIs (f b : List ℕ) : ℕ → List ℕ → Type 0 where
 
 -- what is decided of the show in a file; of a file that is no show's, 1 to 7
 pub data FileDecisionIs (f : List ℕ) : Decision → Type 0 where
-  read : (d : Decision) → (read_of f).check ≡ check.Within → DecisionIs (read_of f).show d → FileDecisionIs f d
-  unread : (w : Refusal) → (read_of f).check ≡ check.Refused w → FileDecisionIs f (refused_for w)
+  read : (d : Decision) → (read_of f).check ≡ Ok tt → DecisionIs (read_of f).show d → FileDecisionIs f d
+  unread : (w : Refusal) → (read_of f).check ≡ Err w → FileDecisionIs f (refused_for w)
 
 -- the three slices that are lent for it
 pub record Slices : Type 0 where
@@ -48,14 +46,14 @@ pub record Enough (b : Slices) : Type 0 where
   pub round : 1 ≤ length b.round
 
 -- 0 for a yes, and the slices from their first places on; a no in one number, and the slices as they were
-abbrev pub verdict_code : Verdict → ℕ
-verdict_code verdict.Accepted = 0
-verdict_code (verdict.Refused w) = code_of w
+abbrev pub verdict_code : Check → ℕ
+verdict_code (Ok tt) = 0
+verdict_code (Err w) = code_of w
 
-abbrev pub filled_by : Verdict → Decision → Slices → Slices
-filled_by verdict.Accepted d b =
+abbrev pub filled_by : Check → Decision → Slices → Slices
+filled_by (Ok tt) d b =
     slices (over b.counts 0 d.counts) (over b.times 0 d.times) (over b.round 0 (d.round ∷ []))
-filled_by (verdict.Refused w) d b = b
+filled_by (Err w) d b = b
 
 -- Too short a slice is 16, whatever the file, and no slice changes.
 pub data DecidedIs (f : List ℕ) (b : Slices) : ℕ → Slices → Type 0 where
@@ -66,25 +64,25 @@ pub data DecidedIs (f : List ℕ) (b : Slices) : ℕ → Slices → Type 0 where
 
 -- ---- the reason
 
-pub data FileReasonIs (f : List ℕ) : Reason → Type 0 where
-  read : (r : Reason) → (read_of f).check ≡ check.Within → ReasonIs (read_of f).show r → FileReasonIs f r
-  unread : (w : Refusal) → (read_of f).check ≡ check.Refused w → FileReasonIs f (reason.Refused w)
+pub data FileReasonIs (f : List ℕ) : Result (Option Reason) Refusal → Type 0 where
+  read : (r : (Result (Option Reason) Refusal)) → (read_of f).check ≡ Ok tt → ReasonIs (read_of f).show r → FileReasonIs f r
+  unread : (w : Refusal) → (read_of f).check ≡ Err w → FileReasonIs f (Err w)
 
 -- which reason, the session and the size: zeros where there is none
-abbrev pub reason_code : Reason → ℕ
-reason_code reason.None = 0
-reason_code reason.Overload = 0
-reason_code reason.Beyond = 0
-reason_code (reason.Buffer i size) = 0
-reason_code (reason.Refused w) = code_of w
+abbrev pub reason_code : Result (Option Reason) Refusal → ℕ
+reason_code (Ok None) = 0
+reason_code (Ok (Some reason.Overload)) = 0
+reason_code (Ok (Some reason.Beyond)) = 0
+reason_code (Ok (Some (reason.Buffer i size))) = 0
+reason_code (Err w) = code_of w
 
-abbrev pub reason_over : Reason → List ℕ → List ℕ
-reason_over reason.None b = over b 0 (0 ∷ 0 ∷ 0 ∷ [])
-reason_over reason.Overload b = over b 0 (1 ∷ 0 ∷ 0 ∷ [])
-reason_over reason.Beyond b = over b 0 (2 ∷ 0 ∷ 0 ∷ [])
-reason_over (reason.Buffer i size) b = over b 0 (3 ∷ i ∷ size ∷ [])
-reason_over (reason.Refused w) b = b
+abbrev pub reason_over : Result (Option Reason) Refusal → List ℕ → List ℕ
+reason_over (Ok None) b = over b 0 (0 ∷ 0 ∷ 0 ∷ [])
+reason_over (Ok (Some reason.Overload)) b = over b 0 (1 ∷ 0 ∷ 0 ∷ [])
+reason_over (Ok (Some reason.Beyond)) b = over b 0 (2 ∷ 0 ∷ 0 ∷ [])
+reason_over (Ok (Some (reason.Buffer i size))) b = over b 0 (3 ∷ i ∷ size ∷ [])
+reason_over (Err w) b = b
 
 pub data ReasonedIs (f b : List ℕ) : ℕ → List ℕ → Type 0 where
   short : (3 ≤ length b → ⊥) → ReasonedIs f b (code_of BufferShort) b
-  reasoned : (r : Reason) → 3 ≤ length b → FileReasonIs f r → ReasonedIs f b (reason_code r) (reason_over r b)
+  reasoned : (r : (Result (Option Reason) Refusal)) → 3 ≤ length b → FileReasonIs f r → ReasonedIs f b (reason_code r) (reason_over r b)

@@ -7,8 +7,8 @@ ghost use Rattle.showfile.specs.Bytes.{over};
 ghost use Rattle.chikchiro.specs.Answers.{ReportedIs, FileDecisionIs, DecidedIs, slices, FileReasonIs, ReasonedIs, code_of};
 
 use reason::Reason;
-use show::refusal::{Check, Refusal};
-use verdict::{Decision, Verdict};
+use show::refusal::Refusal;
+use verdict::Decision;
 
 // Some slice is too short for its answer: 16.
 const SHORT: u64 = 16;
@@ -41,7 +41,7 @@ pub fn chikchiro_decide(
     }
     let decision = decided(file);
     let verdict = decision.verdict;
-    if let Verdict::Refused(why) = verdict {
+    if let Err(why) = verdict {
         return code(why);
     }
     let blocks = decision.counts;
@@ -60,11 +60,11 @@ pub fn chikchiro_reason(file: &[u8], reason: &mut [u64]) -> u64
         return SHORT;
     }
     match reasoned(file) {
-        Reason::None => put_reason(reason, 0, 0, 0),
-        Reason::Overload => put_reason(reason, 1, 0, 0),
-        Reason::Beyond => put_reason(reason, 2, 0, 0),
-        Reason::Buffer { session, size } => put_reason(reason, 3, session as u64, size),
-        Reason::Refused(why) => code(why),
+        Ok(None) => put_reason(reason, 0, 0, 0),
+        Ok(Some(Reason::Overload)) => put_reason(reason, 1, 0, 0),
+        Ok(Some(Reason::Beyond)) => put_reason(reason, 2, 0, 0),
+        Ok(Some(Reason::Buffer { session, size })) => put_reason(reason, 3, session as u64, size),
+        Err(why) => code(why),
     }
 }
 
@@ -74,9 +74,9 @@ fn decided(file: &[u8]) -> Decision
 {
     let got = showfile::read(file);
     let check = got.check;
-    if let Check::Refused(why) = check {
+    if let Err(why) = check {
         return Decision {
-            verdict: Verdict::Refused(why),
+            verdict: Err(why),
             round: 0,
             counts: [0; 16],
             times: [0; 16],
@@ -86,13 +86,13 @@ fn decided(file: &[u8]) -> Decision
 }
 
 // Why the show in a file is refused, or why there is none.
-fn reasoned(file: &[u8]) -> Reason
+fn reasoned(file: &[u8]) -> Result<Option<Reason>, Refusal>
     ensures { FileReasonIs file.now result }
 {
     let got = showfile::read(file);
     let check = got.check;
-    if let Check::Refused(why) = check {
-        return Reason::Refused(why);
+    if let Err(why) = check {
+        return Err(why);
     }
     reason::why(got.show)
 }

@@ -9,7 +9,7 @@ ghost use Rattle.cost.specs.Bound.{Limited};
 ghost use Rattle.cost.specs.Costs.{read_cost};
 ghost use Rattle.cost.specs.WorstTimes.{takes_of};
 
-use crate::worst::{Worst, cylinder_within, time_of};
+use crate::worst::{cylinder_within, time_of};
 use show::Layout;
 use show::refusal::Refusal;
 
@@ -55,15 +55,15 @@ impl Cost {
     }
 
     // U(n) on cylinders of so many blocks: 5 where these are outside their limit, then 6 where the cost is past its limits.
-    pub fn takes(self, cylinder: u32, n: u32) -> Worst
+    pub fn takes(self, cylinder: u32, n: u32) -> Result<u64, Refusal>
         ensures { result ≡ takes_of self cylinder n }
     {
         if !cylinder_within(cylinder) {
-            return Worst::Refused(Refusal::DriveLimits);
+            return Err(Refusal::DriveLimits);
         }
         if !self.limited() {
-            return Worst::Refused(Refusal::LayoutLimits(0));
+            return Err(Refusal::LayoutLimits(0));
         }
-        Worst::Takes(time_of(self, cylinder, n))
+        Ok(time_of(self, cylinder, n))
     }
 }

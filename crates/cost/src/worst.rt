@@ -5,15 +5,8 @@ ghost use Rattle.cost.specs.Bound.{Limited, edges, worst_time};
 ghost use Rattle.cost.specs.WorstTimes.{worst_of};
 
 use crate::Cost;
-use show::refusal::{Check, Refusal};
+use show::refusal::Refusal;
 use show::{Drive, Show};
-
-// How long so many blocks take at worst, or why there is no answer.
-#[derive(Clone, Copy)]
-pub enum Worst {
-    Takes(u64),
-    Refused(Refusal),
-}
 
 pub(crate) fn cylinder_within(cylinder: u32) -> bool
     ensures { Tells result (Between 1 cylinder 65536) }
@@ -47,15 +40,15 @@ pub(crate) fn time_of(cost: Cost, cylinder: u32, n: u32) -> u64
 }
 
 // U(n) of session i: 2, 5, 6, 7, then 9.
-pub fn worst_time(show: Show, i: usize, n: u32) -> Worst
+pub fn worst_time(show: Show, i: usize, n: u32) -> Result<u64, Refusal>
     ensures { result ≡ worst_of show i n }
 {
     let check = show.check();
-    if let Check::Refused(why) = check {
-        return Worst::Refused(why);
+    if let Err(why) = check {
+        return Err(why);
     }
     if show.playing <= i {
-        return Worst::Refused(Refusal::NoSession);
+        return Err(Refusal::NoSession);
     }
     let session = show.sessions[i];
     let at = session.layout as usize;

@@ -1,4 +1,5 @@
 -- What `need` answers, case by case, and that a drive within its limits has a block within its own. Assumes nothing.
+use Rattle.std.specs.Prelude.{Ok, Err}
 use Prim.Native.Nat.{ℕ, ◌*◌}
 use mathlib.Core.Path.{◌≡◌, sym, ◌∙◌}
 use native.Mathlib.Omega.{arith}
@@ -9,30 +10,29 @@ use Rattle.show.specs.Limits.{DriveWithin, rate_most}
 use Rattle.show.specs.Decisions.{between?}
 use Rattle.show.proofs.Checks.{unless_kept, unless_broken}
 use Rattle.theory.specs.Rounds.{need}
-use Rattle.count.specs.declared.Asked.TheVariants as asked
 use Rattle.count.specs.Answers.{BlockWithin, RateWithin, block?, need_of}
 
 module _ (R A t : ℕ) where
-  pub need_unblocked : (BlockWithin A → ⊥) → need_of R A t ≡ asked.Refused DriveLimits
+  pub need_unblocked : (BlockWithin A → ⊥) → need_of R A t ≡ Err DriveLimits
   unfolding need_of
   need_unblocked h = rw (unless_broken (block? A) DriveLimits h)
 
-  pub need_unrated : BlockWithin A → (RateWithin R → ⊥) → need_of R A t ≡ asked.Refused (SessionLimits 0)
+  pub need_unrated : BlockWithin A → (RateWithin R → ⊥) → need_of R A t ≡ Err (SessionLimits 0)
   unfolding need_of
   need_unrated b h = rw (unless_kept (block? A) DriveLimits b, unless_broken (between? 1 R rate_most) (SessionLimits 0) h)
 
-  pub need_known : BlockWithin A → RateWithin R → need_of R A t ≡ asked.Count (need R (A * 1000000) t)
+  pub need_known : BlockWithin A → RateWithin R → need_of R A t ≡ Ok (need R (A * 1000000) t)
   unfolding need_of
   need_known b r = rw (unless_kept (block? A) DriveLimits b, unless_kept (between? 1 R rate_most) (SessionLimits 0) r)
 
   -- So within the limits a count that is answered is the least, and nothing is refused.
   module _ (b : BlockWithin A) (r : RateWithin R) where
-    pub need_is : {m : ℕ} → need_of R A t ≡ asked.Count m → m ≡ need R (A * 1000000) t
-    need_is {m} e = let g : asked.Count m ≡ asked.Count (need R (A * 1000000) t) = sym e ∙ need_known b r in cc
+    pub need_is : {m : ℕ} → need_of R A t ≡ Ok m → m ≡ need R (A * 1000000) t
+    need_is {m} e = let g : Ok m ≡ Ok (need R (A * 1000000) t) = sym e ∙ need_known b r in cc
 
-    pub need_granted : {w : Refusal} {X : Type 0} → need_of R A t ≡ asked.Refused w → X
+    pub need_granted : {w : Refusal} {X : Type 0} → need_of R A t ≡ Err w → X
     need_granted {w} e =
-        let g : asked.Refused w ≡ asked.Count (need R (A * 1000000) t) = sym e ∙ need_known b r in
+        let g : Err w ≡ Ok (need R (A * 1000000) t) = sym e ∙ need_known b r in
         let z : ◌≡◌ {A = ℕ} 0 1 = cc in
         absurd (let f : ⊥ = omega arith in f)
 

@@ -1,18 +1,16 @@
 -- What asking for a count answers, and what has room in a buffer: docs/RULES.md, section 7.
-use Rattle.std.specs.Prelude.{ℕ, ◌+◌, ◌*◌, ◌%◌, ◌≤◌, ◌≡◌, [], ◌∷◌, pos}
+use Rattle.std.specs.Prelude.{ℕ, ◌+◌, ◌*◌, ◌%◌, ◌≤◌, ◌≡◌, [], ◌∷◌, pos, Ok, Err, Result}
 use Rattle.std.proofs.Math.Logic.Dec
 use Rattle.std.proofs.Math.Decide.{ℕ_discrete}
+use Rattle.show.specs.Outcomes.{Check}
+use Rattle.show.specs.declared.refusal.Refusal.{Refusal}
 use Rattle.show.specs.declared.Session.{Session}
 use Rattle.show.specs.declared.refusal.Refusal.TheVariants.{DriveLimits, SessionLimits}
-use Rattle.show.specs.declared.refusal.Check.{Check}
-use Rattle.show.specs.declared.refusal.Check.TheVariants.{Within, Refused}
 use Rattle.show.specs.Limits.{Between, block_least, block_most, rate_most}
 use Rattle.show.specs.Decisions.{decided, between?}
 use Rattle.show.specs.Checks.{first, unless}
 use Rattle.show.specs.Outcomes.{Outcome, granted, refused_by}
 use Rattle.theory.specs.Rounds.{need}
-use Rattle.count.specs.declared.Asked.{Asked}
-use Rattle.count.specs.declared.Asked.TheVariants as asked
 
 -- A, as in a drive within its limits
 pub record BlockWithin (A : ℕ) : Type 0 where
@@ -37,18 +35,18 @@ abbrev pub rate_check : ℕ → Check
 rate_check R = unless (between? 1 R rate_most) (SessionLimits 0)
 
 -- the count, unless a test refused
-abbrev pub asked_answer : Check → ℕ → Asked
-asked_answer Within m = asked.Count m
-asked_answer (Refused w) m = asked.Refused w
+abbrev pub asked_answer : Check → ℕ → Result ℕ Refusal
+asked_answer (Ok tt) m = Ok m
+asked_answer (Err w) m = Err w
 
 -- The least count that is ahead of the rate R over t µs in blocks of A bytes, or 5, 7.
-unfoldable pub need_of : ℕ → ℕ → ℕ → Asked
+unfoldable pub need_of : ℕ → ℕ → ℕ → Result ℕ Refusal
 need_of R A t = asked_answer (first (block_check A) (rate_check R)) (need R (A * 1000000) t)
 
 -- the count, or the refusal
-abbrev pub asked_outcome : Asked → Outcome
-asked_outcome (asked.Count m) = granted (pos m ∷ [])
-asked_outcome (asked.Refused w) = refused_by w
+abbrev pub asked_outcome : Result ℕ Refusal → Outcome
+asked_outcome (Ok m) = granted (pos m ∷ [])
+asked_outcome (Err w) = refused_by w
 
 -- (M + 1) x A + Y is at most B
 abbrev pub Buffered : ℕ → Session → ℕ → Type 0

@@ -11,13 +11,6 @@ use crate::span::{ahead, split};
 use show::refusal::Refusal;
 use show::{Drive, Session};
 
-// A count of blocks, or why there is none.
-#[derive(Clone, Copy)]
-pub enum Asked {
-    Count(u64),
-    Refused(Refusal),
-}
-
 fn block_within(block: u32) -> bool
     ensures { Tells result (BlockWithin block) }
 {
@@ -46,17 +39,17 @@ fn rate_within(rate: u32) -> bool
 }
 
 // The least count of blocks that is ahead of the rate over t µs: 5 where the block is outside its limits, then 7 where the rate is.
-pub fn need(rate: u32, block: u32, t: u64) -> Asked
+pub fn need(rate: u32, block: u32, t: u64) -> Result<u64, Refusal>
     ensures { result ≡ need_of rate block t }
 {
     if !block_within(block) {
-        return Asked::Refused(Refusal::DriveLimits);
+        return Err(Refusal::DriveLimits);
     }
     if !rate_within(rate) {
-        return Asked::Refused(Refusal::SessionLimits(0));
+        return Err(Refusal::SessionLimits(0));
     }
     let span = split(block, t);
-    Asked::Count(ahead(rate, span))
+    Ok(ahead(rate, span))
 }
 
 // Whether the session's buffer takes its cushion, the count and one block more. No limit is tested: of any numbers of 32 bits the sum fits 64.

@@ -1,4 +1,5 @@
 -- No text is longer than said_most, whatever its numbers. Assumes nothing.
+use Rattle.std.specs.Prelude.{Ok, Err, Some, None, Result, Option}
 use Prim.Native.Nat.{ℕ, ◌/◌, ◌%◌, ◌≤◌}
 use mathlib.Core.Path.{◌≡◌}
 use mathlib.Core.List.{List, [], ◌∷◌}
@@ -56,12 +57,12 @@ module _ (t : ℕ) where
   tenth : length (decimal (t % 10)) ≤ 20
   tenth = decimal_most (t % 10)
 
-  reason_few : (r : Reason) → length (reason_text r t) ≤ said_most
-  reason_few reason.None = simp length-append (omega (arith, whole, tenth))
-  reason_few reason.Overload = simp length-append (omega (arith, whole, tenth))
-  reason_few reason.Beyond = simp length-append (omega (arith, whole, tenth, decimal_most buffer_most))
-  reason_few (reason.Buffer i size) = simp length-append (omega (arith, whole, tenth, decimal_most i, decimal_most size))
-  reason_few (reason.Refused w) = refusal_few w
+  reason_few : (r : (Result (Option Reason) Refusal)) → length (reason_text r t) ≤ said_most
+  reason_few (Ok None) = simp length-append (omega (arith, whole, tenth))
+  reason_few (Ok (Some reason.Overload)) = simp length-append (omega (arith, whole, tenth))
+  reason_few (Ok (Some reason.Beyond)) = simp length-append (omega (arith, whole, tenth, decimal_most buffer_most))
+  reason_few (Ok (Some (reason.Buffer i size))) = simp length-append (omega (arith, whole, tenth, decimal_most i, decimal_most size))
+  reason_few (Err w) = refusal_few w
 
 pub said_most_holds : (f t : List ℕ) → SaidIs f t → length t ≤ said_most
 said_most_holds f t (because r e a) = reason_few _ r
@@ -69,7 +70,7 @@ said_most_holds f t (unread w e) = refusal_few w
 
 -- A buffer that takes every text has room for this one.
 module _ (b : List ℕ) (l : said_most ≤ length b) where
-  pub reason_room : (r : Reason) (t : ℕ) → FitsAt b 0 (reason_text r t)
+  pub reason_room : (r : (Result (Option Reason) Refusal)) (t : ℕ) → FitsAt b 0 (reason_text r t)
   reason_room r t = record { fits = (let g = reason_few t r in omega arith) }
 
   pub refusal_room : (w : Refusal) → FitsAt b 0 (refusal_text w)

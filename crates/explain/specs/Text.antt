@@ -1,5 +1,5 @@
 -- The line and the sentence for each reason, as bytes: docs/RULES.md, section 11.
-use Rattle.std.specs.Prelude.{ℕ, ◌/◌, ◌%◌, List, [], ◌∷◌, ◌++◌}
+use Rattle.std.specs.Prelude.{ℕ, ◌/◌, ◌%◌, List, [], ◌∷◌, ◌++◌, Ok, Err, Some, None, Result, Option}
 use Rattle.std.proofs.Math.Logic.{ite}
 use Rattle.std.proofs.Math.Decide.{ℕ_discrete}
 use Rattle.show.specs.declared.refusal.Refusal.{Refusal}
@@ -67,9 +67,9 @@ abbrev pub refusal_text : Refusal → List ℕ
 refusal_text w = refused_text w ++ sentence (told_of w)
 
 -- The reason, and the load in tenths of a per cent.
-abbrev pub reason_text : Reason → ℕ → List ℕ
-reason_text reason.None t = load_text (ascii "none\nThe drive keeps up: it works at ") t (ascii " per cent, and every buffer is large enough.\n")
-reason_text reason.Overload t = load_text (ascii "overload\nThe drive would have to work at ") t (ascii " per cent; at an even hundred it never keeps up.\n")
-reason_text reason.Beyond t = beyond_text t
-reason_text (reason.Buffer i size) t = buffer_text i size t
-reason_text (reason.Refused w) t = refusal_text w
+abbrev pub reason_text : Result (Option Reason) Refusal → ℕ → List ℕ
+reason_text (Ok None) t = load_text (ascii "none\nThe drive keeps up: it works at ") t (ascii " per cent, and every buffer is large enough.\n")
+reason_text (Ok (Some reason.Overload)) t = load_text (ascii "overload\nThe drive would have to work at ") t (ascii " per cent; at an even hundred it never keeps up.\n")
+reason_text (Ok (Some reason.Beyond)) t = beyond_text t
+reason_text (Ok (Some (reason.Buffer i size))) t = buffer_text i size t
+reason_text (Err w) t = refusal_text w

@@ -10,8 +10,8 @@ ghost use Rattle.explain.specs.Text.{reason_text, refusal_text};
 ghost use Rattle.explain.specs.Answers.{SaidIs, ExplainIs, said_most};
 
 use crate::line::{put_beyond, put_buffer, put_load, put_sentence};
-use reason::{Loaded, Reason};
-use show::refusal::{Check, Refusal};
+use reason::Reason;
+use show::refusal::Refusal;
 use showfile::Written;
 
 // No text is longer.
@@ -34,28 +34,28 @@ fn put_refusal(out: &mut [u8], why: Refusal) -> usize
     put_sentence(out, next, told)
 }
 
-fn put_reason(out: &mut [u8], reason: Reason, tenths: u64) -> usize
+fn put_reason(out: &mut [u8], reason: Result<Option<Reason>, Refusal>, tenths: u64) -> usize
     requires { said_most ≤ length out.old }
     ensures { Put out.old 0 (reason_text reason tenths) out.new result }
 {
     match reason {
-        Reason::None => put_load(
+        Ok(None) => put_load(
             out,
             0,
             b"none\nThe drive keeps up: it works at ",
             tenths,
             b" per cent, and every buffer is large enough.\n",
         ),
-        Reason::Overload => put_load(
+        Ok(Some(Reason::Overload)) => put_load(
             out,
             0,
             b"overload\nThe drive would have to work at ",
             tenths,
             b" per cent; at an even hundred it never keeps up.\n",
         ),
-        Reason::Beyond => put_beyond(out, tenths),
-        Reason::Buffer { session, size } => put_buffer(out, session as u64, size, tenths),
-        Reason::Refused(why) => put_refusal(out, why),
+        Ok(Some(Reason::Beyond)) => put_beyond(out, tenths),
+        Ok(Some(Reason::Buffer { session, size })) => put_buffer(out, session as u64, size, tenths),
+        Err(why) => put_refusal(out, why),
     }
 }
 
@@ -66,15 +66,15 @@ fn put_text(file: &[u8], out: &mut [u8]) -> usize
 {
     let got = showfile::read(file);
     let check = got.check;
-    if let Check::Refused(why) = check {
+    if let Err(why) = check {
         return put_refusal(out, why);
     }
     let show = got.show;
     let reason = reason::why(show);
     let loaded = reason::load(show);
     match loaded {
-        Loaded::Tenths(tenths) => put_reason(out, reason, tenths),
-        Loaded::Refused(why) => put_refusal(out, why),
+        Ok(tenths) => put_reason(out, reason, tenths),
+        Err(why) => put_refusal(out, why),
     }
 }
 
@@ -85,13 +85,13 @@ pub fn explain(file: &[u8], buffer: &mut [u8]) -> Written
 {
     if buffer.len() < TEXT_MOST {
         return Written {
-            check: Check::Refused(Refusal::BufferShort),
+            check: Err(Refusal::BufferShort),
             len: 0,
         };
     }
     let len = put_text(file, buffer);
     Written {
-        check: Check::Within,
+        check: Ok(()),
         len,
     }
 }

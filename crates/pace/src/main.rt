@@ -13,9 +13,8 @@ mod sums;
 
 use input::read_all;
 use parse::{find, part, parts, same};
-use parse_numbers::{Number, decimal, unhex};
+use parse_numbers::{decimal, unhex};
 use show::Show;
-use show::refusal::Check;
 
 const TURNS_MOST: u64 = 1_000_000_000_000;
 
@@ -69,7 +68,7 @@ fn answers(rt: &impl Print, text: &[u8]) {
 fn answer(rt: &impl Print, line: &[u8], i: usize) {
     let mut file = [0u8; FILE_MOST];
     let sum = sum_of(line, &mut file);
-    let Number::Is(n) = sum else {
+    let Some(n) = sum else {
         say(rt, b"error");
         spaced(rt, i as u64);
         say(rt, b"\n");
@@ -84,17 +83,17 @@ fn answer(rt: &impl Print, line: &[u8], i: usize) {
 // ---- what a line asks
 
 // What a job comes to, or that the line is none.
-fn sum_of(line: &[u8], file: &mut [u8]) -> Number {
+fn sum_of(line: &[u8], file: &mut [u8]) -> Option<u64> {
     let n = bytes_of(part(line, b' ', 2), file);
     let turns = turns_of(line);
     if file.len() < n {
-        return Number::Not;
+        return None;
     }
     if TURNS_MOST < turns {
-        return Number::Not;
+        return None;
     }
     if parts(line, b' ') != 3 {
-        return Number::Not;
+        return None;
     }
     file_job(kind_of(part(line, b' ', 0)), turns, &mut file[0..n])
 }
@@ -102,7 +101,7 @@ fn sum_of(line: &[u8], file: &mut [u8]) -> Number {
 // How often; too often where the text is no number.
 fn turns_of(line: &[u8]) -> u64 {
     let number = decimal(part(line, b' ', 1));
-    let Number::Is(turns) = number else {
+    let Some(turns) = number else {
         return TURNS_MOST + 1;
     };
     turns
@@ -116,7 +115,7 @@ fn bytes_of(text: &[u8], out: &mut [u8]) -> usize {
         return NO_BYTES;
     }
     let count = unhex(text, out);
-    let Number::Is(n) = count else {
+    let Some(n) = count else {
         return NO_BYTES;
     };
     n as usize
@@ -180,45 +179,45 @@ fn run_kind(word: &[u8]) -> Kind {
 
 // ---- the jobs, by what they need
 
-fn file_job(kind: Kind, turns: u64, file: &mut [u8]) -> Number {
+fn file_job(kind: Kind, turns: u64, file: &mut [u8]) -> Option<u64> {
     if let Kind::Read = kind {
-        return Number::Is(files::reads(file, turns));
+        return Some(files::reads(file, turns));
     }
     if let Kind::Report = kind {
-        return Number::Is(files::reports(file, turns));
+        return Some(files::reports(file, turns));
     }
     let got = showfile::read(file);
     let check = got.check;
-    let Check::Within = check else {
-        return Number::Not;
+    let Ok(()) = check else {
+        return None;
     };
     let show = got.show;
     if let Kind::Write = kind {
-        return Number::Is(files::writes(show, showfile::note(file), turns));
+        return Some(files::writes(show, showfile::note(file), turns));
     }
     show_job(kind, turns, show)
 }
 
-fn show_job(kind: Kind, turns: u64, show: Show) -> Number {
+fn show_job(kind: Kind, turns: u64, show: Show) -> Option<u64> {
     match kind {
-        Kind::Empty => Number::Is(shows::nothings(turns)),
-        Kind::Decide => Number::Is(shows::decides(show, turns)),
-        Kind::Reason => Number::Is(shows::reasons(show, turns)),
-        Kind::Open => Number::Is(shows::opens(show, turns)),
+        Kind::Empty => Some(shows::nothings(turns)),
+        Kind::Decide => Some(shows::decides(show, turns)),
+        Kind::Reason => Some(shows::reasons(show, turns)),
+        Kind::Open => Some(shows::opens(show, turns)),
         Kind::Play => run_job(Kind::Play, turns, show),
         Kind::Pass => run_job(Kind::Pass, turns, show),
         Kind::Take => run_job(Kind::Take, turns, show),
         Kind::Slack => run_job(Kind::Slack, turns, show),
         Kind::Workahead => run_job(Kind::Workahead, turns, show),
-        _ => Number::Not,
+        _ => None,
     }
 }
 
-fn run_job(kind: Kind, turns: u64, show: Show) -> Number {
+fn run_job(kind: Kind, turns: u64, show: Show) -> Option<u64> {
     let opened = run::open(show);
     let check = opened.check;
-    let Check::Within = check else {
-        return Number::Not;
+    let Ok(()) = check else {
+        return None;
     };
     let given = runs::started(opened.run);
     let sum = match kind {
@@ -228,7 +227,7 @@ fn run_job(kind: Kind, turns: u64, show: Show) -> Number {
         Kind::Slack => runs::slacks(given, turns),
         _ => runs::workaheads(given, turns),
     };
-    Number::Is(sum)
+    Some(sum)
 }
 
 // ---- what is printed

@@ -1,11 +1,12 @@
 // Jobs on a run.
 ghost use Rattle.std.specs.Prelude.{◌<◌};
 
+use show::refusal::Refusal;
 use crate::sums::{four, number_of, odd, three, two};
 use run::Run;
 use scheduler::Choice;
 use std::num::wrapping_sub_u64;
-use workahead::{Spare, magnitude};
+use workahead::magnitude;
 
 // How long a read takes, and how long passes before the next.
 const SPAN: u64 = 100;
@@ -186,10 +187,10 @@ pub(crate) fn workaheads(given: Run, turns: u64) -> u64 {
 }
 
 // The time modulo 2^64, or the refusal's number.
-fn spared_of(spare: Spare) -> u64 {
+fn spared_of(spare: Result<i64, Refusal>) -> u64 {
     match spare {
-        Spare::Time(t) => bits(t),
-        Spare::Refused(why) => why.told().number as u64,
+        Ok(t) => bits(t),
+        Err(why) => why.told().number as u64,
     }
 }
 

@@ -1,8 +1,8 @@
 // Jobs on a show.
+use show::refusal::Refusal;
 use crate::sums::{cushion, first_cushion, four, last, number_of, three, two};
 use reason::Reason;
 use show::Show;
-use verdict::Verdict;
 
 // The loop alone.
 pub(crate) fn nothings(turns: u64) -> u64 {
@@ -40,8 +40,8 @@ fn decide(show: Show) -> u64 {
     )
 }
 
-fn refusal_of(verdict: Verdict) -> u64 {
-    let Verdict::Refused(why) = verdict else {
+fn refusal_of(verdict: Result<(), Refusal>) -> u64 {
+    let Err(why) = verdict else {
         return 0;
     };
     why.told().number as u64
@@ -62,11 +62,11 @@ pub(crate) fn reasons(given: Show, turns: u64) -> u64 {
 
 fn reason(show: Show) -> u64 {
     match reason::why(show) {
-        Reason::None => 0,
-        Reason::Overload => 1,
-        Reason::Beyond => 2,
-        Reason::Buffer { session, size } => three(3, session as u64, size),
-        Reason::Refused(why) => why.told().number as u64,
+        Ok(None) => 0,
+        Ok(Some(Reason::Overload)) => 1,
+        Ok(Some(Reason::Beyond)) => 2,
+        Ok(Some(Reason::Buffer { session, size })) => three(3, session as u64, size),
+        Err(why) => why.told().number as u64,
     }
 }
 

@@ -1,8 +1,8 @@
 // What a turn adds, and how turns differ.
 ghost use Rattle.std.specs.Prelude.{◌<◌};
 
+use show::refusal::Refusal;
 use show::Show;
-use show::refusal::Check;
 use std::num::{wrapping_add_u32, wrapping_add_u64};
 
 pub(crate) fn two(a: u64, b: u64) -> u64 {
@@ -18,8 +18,8 @@ pub(crate) fn four(a: u64, b: u64, c: u64, d: u64) -> u64 {
 }
 
 // The refusal's number; 0 where it is none.
-pub(crate) fn number_of(check: Check) -> u64 {
-    let Check::Refused(why) = check else {
+pub(crate) fn number_of(check: Result<(), Refusal>) -> u64 {
+    let Err(why) = check else {
         return 0;
     };
     why.told().number as u64

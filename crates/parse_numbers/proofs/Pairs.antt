@@ -1,4 +1,5 @@
 -- Two digits a byte: laws for `pair`, `byte` and the loop of `bytes`. Assumes nothing.
+use Rattle.std.specs.Prelude.{Some, Option, None}
 use Prim.Native.Nat.{ℕ, suc, ◌+◌, ◌*◌, ◌/◌, ◌≤◌, ◌<◌}
 use mathlib.Core.Path.{◌≡◌, refl, sym, ap, ◌∙◌}
 use mathlib.Core.Bool.{Bool, true, false}
@@ -6,58 +7,56 @@ use mathlib.Core.List.{List, [], ◌∷◌}
 use native.Mathlib.Omega.{arith}
 use lib.Dec.{lit<}
 use lib.ListN.{length, drop, get_or, drop_of_length-le}
-use Rattle.parse_numbers.specs.declared.Number.{Number}
-use Rattle.parse_numbers.specs.declared.Number.TheVariants.{Is, Not}
 use Rattle.parse_numbers.specs.Numbers.{longer_by}
-use Rattle.parse_numbers.specs.Bytes.{Bytes, Are, None, hex_of, byte_of, joined, pairs_of, bytes_of, count_of, or_zero}
+use Rattle.parse_numbers.specs.Bytes.{Bytes, hex_of, byte_of, joined, pairs_of, bytes_of, count_of, or_zero}
 use Rattle.parse.proofs.Turns.{stands}
 use Rattle.parse_numbers.proofs.Values.{is_not, counted_small}
 
-pub are_none : {p : Type 0} {l : List ℕ} → Are l ≡ None → p
+pub are_none : {p : Type 0} {l : List ℕ} → Some l ≡ None → p
 are_none e = absurd (let z : ◌≡◌ {A = ℕ} 0 1 = cc in let f : ⊥ = omega arith in f)
 
 -- ---- a pair
 
-pub hex_small : (b d : ℕ) → hex_of b ≡ Is d → d < 16
+pub hex_small : (b d : ℕ) → hex_of b ≡ Some d → d < 16
 hex_small b d =
     counted_small 16 48 57 0 b _ d (lit< tt)
     (λ x. counted_small 16 97 102 10 b _ x (lit< tt)
-    (λ y. counted_small 16 65 70 10 b Not y (lit< tt)
+    (λ y. counted_small 16 65 70 10 b None y (lit< tt)
     (λ z e. is_not (sym e))))
 
-module _ (x y : Number) where
-  pub no_high : x ≡ Not → Not ≡ longer_by 16 x y
+module _ (x y : (Option ℕ)) where
+  pub no_high : x ≡ None → None ≡ longer_by 16 x y
   unfolding longer_by
   no_high e = rw e
 
-  pub no_low : (h : ℕ) → x ≡ Is h → y ≡ Not → Not ≡ longer_by 16 x y
+  pub no_low : (h : ℕ) → x ≡ Some h → y ≡ None → None ≡ longer_by 16 x y
   unfolding longer_by
   no_low h e f = rw (e, f)
 
-  pub both : (h l : ℕ) → x ≡ Is h → y ≡ Is l → Is (16 * h + l) ≡ longer_by 16 x y
+  pub both : (h l : ℕ) → x ≡ Some h → y ≡ Some l → Some (16 * h + l) ≡ longer_by 16 x y
   unfolding longer_by
   both h l e f = rw (e, f)
 
-pub byte_small : (high low b : ℕ) → byte_of high low ≡ Is b → b < 256
+pub byte_small : (high low b : ℕ) → byte_of high low ≡ Some b → b < 256
 unfolding longer_by
 byte_small high low b = from _ _ (hex_small _) (hex_small _)
   where
-    from : (x y : Number) → ((d : ℕ) → x ≡ Is d → d < 16) → ((d : ℕ) → y ≡ Is d → d < 16) → longer_by 16 x y ≡ Is b → b < 256
-    from (Is h) (Is l) p q g = let k : 16 * h + l ≡ b = cc in omega (arith, p h refl, q l refl)
-    from (Is h) Not p q g = is_not (sym g)
-    from Not y p q g = is_not (sym g)
+    from : (x y : (Option ℕ)) → ((d : ℕ) → x ≡ Some d → d < 16) → ((d : ℕ) → y ≡ Some d → d < 16) → longer_by 16 x y ≡ Some b → b < 256
+    from (Some h) (Some l) p q g = let k : 16 * h + l ≡ b = cc in omega (arith, p h refl, q l refl)
+    from (Some h) None p q g = is_not (sym g)
+    from None y p q g = is_not (sym g)
 
-pub zero_none : (x : Number) → x ≡ Not → 0 ≡ or_zero x
+pub zero_none : (x : (Option ℕ)) → x ≡ None → 0 ≡ or_zero x
 unfolding or_zero
 zero_none x e = rw e
 
-pub zero_is : (x : Number) (b : ℕ) → x ≡ Is b → b ≡ or_zero x
+pub zero_is : (x : (Option ℕ)) (b : ℕ) → x ≡ Some b → b ≡ or_zero x
 unfolding or_zero
 zero_is x b e = rw e
 
 -- ---- a text
 
-pub bytes_none : (text : List ℕ) → length text < 2 → Not ≡ count_of (bytes_of text)
+pub bytes_none : (text : List ℕ) → length text < 2 → None ≡ count_of (bytes_of text)
 unfolding bytes_of pairs_of count_of
 bytes_none [] h = refl
 bytes_none (a ∷ []) h = refl
@@ -68,18 +67,18 @@ unfolding bytes_of
 bytes_pairs [] h = absurd (let f : ⊥ = omega arith in f)
 bytes_pairs (a ∷ text) h = refl
 
-pub pairs_length : (text l : List ℕ) → pairs_of text ≡ Are l → length text ≡ 2 * length l
+pub pairs_length : (text l : List ℕ) → pairs_of text ≡ Some l → length text ≡ 2 * length l
 unfolding pairs_of joined
 pairs_length [] l e = let k : [] ≡ l = cc in rw (sym k)
 pairs_length (a ∷ []) l e = are_none (sym e)
 pairs_length (a ∷ b ∷ text) l e = from (byte_of a b) (pairs_of text) (pairs_length text) e
   where
-    from : (x : Number) (y : Bytes) → ((m : List ℕ) → y ≡ Are m → length text ≡ 2 * length m) → joined x y ≡ Are l → suc (suc (length text)) ≡ 2 * length l
-    from (Is v) (Are m) p g = let k : v ∷ m ≡ l = cc in let q = ap length k in omega (arith, p m refl)
-    from (Is v) None p g = are_none (sym g)
-    from Not y p g = are_none (sym g)
+    from : (x : (Option ℕ)) (y : Bytes) → ((m : List ℕ) → y ≡ Some m → length text ≡ 2 * length m) → joined x y ≡ Some l → suc (suc (length text)) ≡ 2 * length l
+    from (Some v) (Some m) p g = let k : v ∷ m ≡ l = cc in let q = ap length k in omega (arith, p m refl)
+    from (Some v) None p g = are_none (sym g)
+    from None y p g = are_none (sym g)
 
-pub bytes_length : (text l : List ℕ) → bytes_of text ≡ Are l → length text ≡ 2 * length l
+pub bytes_length : (text l : List ℕ) → bytes_of text ≡ Some l → length text ≡ 2 * length l
 unfolding bytes_of
 bytes_length [] l e = are_none (sym e)
 bytes_length (a ∷ text) l e = pairs_length (a ∷ text) l e
@@ -87,7 +86,7 @@ bytes_length (a ∷ text) l e = pairs_length (a ∷ text) l e
 -- ---- the loop, at pair i: the text is in hex where what is left of it is
 
 abbrev pub valid : Bytes → Bool
-valid (Are l) = true
+valid (Some l) = true
 valid None = false
 
 pub record SoFar (text : List ℕ) (n i : ℕ) : Type 0 where
@@ -95,33 +94,33 @@ pub record SoFar (text : List ℕ) (n i : ℕ) : Type 0 where
   pub whole : length text ≡ 2 * n
   pub so_far : valid (pairs_of (drop (2 * i) text)) ≡ valid (pairs_of text)
 
-valid_joined : (x : Number) (b : ℕ) (y : Bytes) → x ≡ Is b → valid (joined x y) ≡ valid y
+valid_joined : (x : (Option ℕ)) (b : ℕ) (y : Bytes) → x ≡ Some b → valid (joined x y) ≡ valid y
 unfolding joined
-valid_joined x b (Are l) e = rw e
+valid_joined x b (Some l) e = rw e
 valid_joined x b None e = rw e
 
-invalid_joined : (x : Number) (y : Bytes) → x ≡ Not → valid (joined x y) ≡ false
+invalid_joined : (x : (Option ℕ)) (y : Bytes) → x ≡ None → valid (joined x y) ≡ false
 unfolding joined
 invalid_joined x y e = rw e
 
-count_invalid : (y : Bytes) → valid y ≡ false → Not ≡ count_of y
+count_invalid : (y : Bytes) → valid y ≡ false → None ≡ count_of y
 unfolding count_of
-count_invalid (Are l) e = absurd (let z : ◌≡◌ {A = ℕ} 0 1 = cc in let f : ⊥ = omega arith in f)
+count_invalid (Some l) e = absurd (let z : ◌≡◌ {A = ℕ} 0 1 = cc in let f : ⊥ = omega arith in f)
 count_invalid None e = refl
 
-count_valid : (text : List ℕ) (n : ℕ) (y : Bytes) → pairs_of text ≡ y → length text ≡ 2 * n → valid y ≡ true → Is n ≡ count_of y
+count_valid : (text : List ℕ) (n : ℕ) (y : Bytes) → pairs_of text ≡ y → length text ≡ 2 * n → valid y ≡ true → Some n ≡ count_of y
 unfolding count_of
-count_valid text n (Are l) p h e = let k : n ≡ length l = omega (arith, pairs_length text l p) in ap Is k
+count_valid text n (Some l) p h e = let k : n ≡ length l = omega (arith, pairs_length text l p) in ap Some k
 count_valid text n None p h e = absurd (let z : ◌≡◌ {A = ℕ} 0 1 = cc in let f : ⊥ = omega arith in f)
 
 -- an odd length is no text in hex
-pub odd : (text : List ℕ) (n : ℕ) → n ≡ length text / 2 → (length text ≡ 2 * n → ⊥) → Not ≡ count_of (bytes_of text)
+pub odd : (text : List ℕ) (n : ℕ) → n ≡ length text / 2 → (length text ≡ 2 * n → ⊥) → None ≡ count_of (bytes_of text)
 unfolding count_of
 odd text n h o = from (bytes_of text) (bytes_length text)
   where
-    from : (y : Bytes) → ((l : List ℕ) → y ≡ Are l → length text ≡ 2 * length l) → Not ≡ count_of y
+    from : (y : Bytes) → ((l : List ℕ) → y ≡ Some l → length text ≡ 2 * length l) → None ≡ count_of y
     from None p = refl
-    from (Are l) p = absurd (o (omega (arith, p l refl)))
+    from (Some l) p = absurd (o (omega (arith, p l refl)))
 
 module _ (text : List ℕ) (n i : ℕ) (so : SoFar text n i) where
   pairs_at : i < n → pairs_of (drop (2 * i) text) ≡ joined (byte_of (get_or text (2 * i) 0) (get_or text (2 * i + 1) 0)) (pairs_of (drop (2 * (i + 1)) text))
@@ -131,7 +130,7 @@ module _ (text : List ℕ) (n i : ℕ) (so : SoFar text n i) where
       let e : 2 * (i + 1) ≡ 2 * i + 1 + 1 = omega arith in
       rw (e, stands text (2 * i) (omega arith), stands text (2 * i + 1) (omega arith))
 
-  pub body : i < n → (x : Number) (b : ℕ) → x ≡ byte_of (get_or text (2 * i) 0) (get_or text (2 * i + 1) 0) → x ≡ Is b → SoFar text n (i + 1)
+  pub body : i < n → (x : (Option ℕ)) (b : ℕ) → x ≡ byte_of (get_or text (2 * i) 0) (get_or text (2 * i + 1) 0) → x ≡ Some b → SoFar text n (i + 1)
   body h x b e z =
       record {
         within = omega arith;
@@ -139,13 +138,13 @@ module _ (text : List ℕ) (n i : ℕ) (so : SoFar text n i) where
         so_far = sym (ap valid (pairs_at h) ∙ valid_joined _ b _ (sym e ∙ z)) ∙ so.so_far;
       }
 
-  pub stopped : i < n → (x : Number) → x ≡ byte_of (get_or text (2 * i) 0) (get_or text (2 * i + 1) 0) → x ≡ Not → Not ≡ count_of (bytes_of text)
+  pub stopped : i < n → (x : (Option ℕ)) → x ≡ byte_of (get_or text (2 * i) 0) (get_or text (2 * i + 1) 0) → x ≡ None → None ≡ count_of (bytes_of text)
   stopped h x e z =
       let w = so.whole in
       rw (bytes_pairs text (omega arith))
       (count_invalid (pairs_of text) (sym so.so_far ∙ ap valid (pairs_at h) ∙ invalid_joined _ _ (sym e ∙ z)))
 
-  pub ended : 0 < n → n ≤ i → Is n ≡ count_of (bytes_of text)
+  pub ended : 0 < n → n ≤ i → Some n ≡ count_of (bytes_of text)
   unfolding pairs_of
   ended p h =
       let w = so.whole in

@@ -1,4 +1,5 @@
 -- Bytes over the first of a buffer: laws for the loop of `decode` and for `unhex`. Assumes nothing.
+use Rattle.std.specs.Prelude.{Some, Option, None}
 use Prim.Native.Nat.{ℕ, zero, suc, ◌+◌, ◌*◌, ◌≤◌, ◌<◌}
 use mathlib.Core.Path.{◌≡◌, refl, sym, ap, ap₂, ◌∙◌}
 use mathlib.Core.List.{List, [], ◌∷◌, ◌++◌, append_assoc}
@@ -6,9 +7,7 @@ use native.Mathlib.Numerals.{add-one}
 use native.Mathlib.Omega.{arith}
 use lib.ListN.{length, take, drop, get_or, set, drop_of_length-le}
 use lib.Seq.{take-suc, take_all, length-take-le, set_at}
-use Rattle.parse_numbers.specs.declared.Number.{Number}
-use Rattle.parse_numbers.specs.declared.Number.TheVariants.{Is, Not}
-use Rattle.parse_numbers.specs.Bytes.{Bytes, Are, None, byte_of, joined, pairs_of, bytes_of, count_of, put_of, list_of, or_zero}
+use Rattle.parse_numbers.specs.Bytes.{Bytes, byte_of, joined, pairs_of, bytes_of, count_of, put_of, list_of, or_zero}
 use Rattle.parse.proofs.Turns.{stands}
 use Rattle.parse_numbers.proofs.Values.{is_not}
 use Rattle.parse_numbers.proofs.Pairs.{bytes_length}
@@ -18,8 +17,8 @@ pub listed_within : (text : List ℕ) → 2 * length (list_of (bytes_of text)) �
 unfolding list_of
 listed_within text = from (bytes_of text) (bytes_length text)
   where
-    from : (y : Bytes) → ((l : List ℕ) → y ≡ Are l → length text ≡ 2 * length l) → 2 * length (list_of y) ≤ length text
-    from (Are l) p = omega (arith, p l refl)
+    from : (y : Bytes) → ((l : List ℕ) → y ≡ Some l → length text ≡ 2 * length l) → 2 * length (list_of y) ≤ length text
+    from (Some l) p = omega (arith, p l refl)
     from None p = omega arith
 
 pairs_byte : (text : List ℕ) (i : ℕ) → i < length (list_of (pairs_of text)) →
@@ -29,21 +28,21 @@ pairs_byte [] i h = absurd (let f : ⊥ = omega arith in f)
 pairs_byte (a ∷ []) i h = absurd (let f : ⊥ = omega arith in f)
 pairs_byte (a ∷ b ∷ text) zero h = from (byte_of a b) (pairs_of text) h
   where
-    from : (x : Number) (y : Bytes) → 0 < length (list_of (joined x y)) → or_zero x ≡ get_or (list_of (joined x y)) 0 0
-    from (Is v) (Are l) g = refl
-    from (Is v) None g = absurd (let f : ⊥ = omega arith in f)
-    from Not y g = absurd (let f : ⊥ = omega arith in f)
+    from : (x : (Option ℕ)) (y : Bytes) → 0 < length (list_of (joined x y)) → or_zero x ≡ get_or (list_of (joined x y)) 0 0
+    from (Some v) (Some l) g = refl
+    from (Some v) None g = absurd (let f : ⊥ = omega arith in f)
+    from None y g = absurd (let f : ⊥ = omega arith in f)
 pairs_byte (a ∷ b ∷ text) (suc i) h =
     let d : 2 * suc i + 1 ≡ suc (suc (2 * i + 1)) = omega arith in
     let e : 2 * suc i ≡ suc (suc (2 * i)) = omega arith in
     rw (d, e) (from (byte_of a b) (pairs_of text) (pairs_byte text i) h)
   where
     from :
-        (x : Number) (y : Bytes) → (i < length (list_of y) → or_zero (byte_of (get_or text (2 * i) 0) (get_or text (2 * i + 1) 0)) ≡ get_or (list_of y) i 0) →
+        (x : (Option ℕ)) (y : Bytes) → (i < length (list_of y) → or_zero (byte_of (get_or text (2 * i) 0) (get_or text (2 * i + 1) 0)) ≡ get_or (list_of y) i 0) →
         suc i < length (list_of (joined x y)) → or_zero (byte_of (get_or text (2 * i) 0) (get_or text (2 * i + 1) 0)) ≡ get_or (list_of (joined x y)) (suc i) 0
-    from (Is v) (Are l) p g = p (omega arith)
-    from (Is v) None p g = absurd (let f : ⊥ = omega arith in f)
-    from Not y p g = absurd (let f : ⊥ = omega arith in f)
+    from (Some v) (Some l) p g = p (omega arith)
+    from (Some v) None p g = absurd (let f : ⊥ = omega arith in f)
+    from None y p g = absurd (let f : ⊥ = omega arith in f)
 
 pub byte_at : (text : List ℕ) (i : ℕ) → i < length (list_of (bytes_of text)) →
     or_zero (byte_of (get_or text (2 * i) 0) (get_or text (2 * i + 1) 0)) ≡ get_or (list_of (bytes_of text)) i 0
@@ -60,28 +59,28 @@ put_more l out i v h g e =
 
 -- ---- all, or as many as there is room for
 
-pub put_none : (out : List ℕ) (y : Bytes) → count_of y ≡ Not → out ≡ put_of y out
+pub put_none : (out : List ℕ) (y : Bytes) → count_of y ≡ None → out ≡ put_of y out
 unfolding count_of put_of
-put_none out (Are l) e = is_not e
+put_none out (Some l) e = is_not e
 put_none out None e = refl
 
-pub count_is : (n : ℕ) (y : Bytes) → count_of y ≡ Is n → length (list_of y) ≡ n
+pub count_is : (n : ℕ) (y : Bytes) → count_of y ≡ Some n → length (list_of y) ≡ n
 unfolding count_of list_of
-count_is n (Are l) e = cc
+count_is n (Some l) e = cc
 count_is n None e = is_not (sym e)
 
 module _ (out : List ℕ) (n : ℕ) where
-  pub put_some : (y : Bytes) → count_of y ≡ Is n → length out < n → take (length out) (list_of y) ++ drop (length out) out ≡ put_of y out
+  pub put_some : (y : Bytes) → count_of y ≡ Some n → length out < n → take (length out) (list_of y) ++ drop (length out) out ≡ put_of y out
   unfolding count_of list_of put_of
-  put_some (Are l) e h =
+  put_some (Some l) e h =
       let k : length l ≡ n = cc in
       ap (λ (t : List ℕ). take (length out) l ++ t)
       (drop_of_length-le out {i = length out} (omega arith) ∙ sym (drop_of_length-le out {i = length l} (omega arith)))
   put_some None e h = is_not (sym e)
 
-  pub put_all : (y : Bytes) → count_of y ≡ Is n → n ≤ length out → take n (list_of y) ++ drop n out ≡ put_of y out
+  pub put_all : (y : Bytes) → count_of y ≡ Some n → n ≤ length out → take n (list_of y) ++ drop n out ≡ put_of y out
   unfolding count_of list_of put_of
-  put_all (Are l) e h =
+  put_all (Some l) e h =
       let k : length l ≡ n = cc in
       ap₂ (λ (s t : List ℕ). s ++ t)
       (take_all n l (omega arith) ∙ sym (take_all (length out) l (omega arith))) (ap (λ (m : ℕ). drop m out) (sym k))

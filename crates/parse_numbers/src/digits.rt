@@ -1,15 +1,13 @@
 // What one byte counts as a digit.
-ghost use Rattle.std.specs.Prelude.{◌≡◌};
-ghost use Rattle.parse_numbers.specs.declared.Number.TheVariants.{Is};
+ghost use Rattle.std.specs.Prelude.{◌≡◌, Some};
 ghost use Rattle.parse_numbers.specs.Numbers.{counted_of, digit_of, longer_by, fitting};
 ghost use Rattle.parse_numbers.specs.Bytes.{hex_of, byte_of, or_zero};
 
-use crate::Number;
 
 const MOST: u64 = 18_446_744_073_709_551_615;
 
 // A byte from `least` to `most` counts on from `first`; any other is `other`.
-fn counted(least: u8, most: u8, first: u8, b: u8, other: Number) -> Number
+fn counted(least: u8, most: u8, first: u8, b: u8, other: Option<u64>) -> Option<u64>
     ensures { result ≡ counted_of least most first b other }
 {
     if b < least {
@@ -19,51 +17,51 @@ fn counted(least: u8, most: u8, first: u8, b: u8, other: Number) -> Number
         return other;
     }
     let place = (b - least) as u64 + first as u64;
-    Number::Is(place)
+    Some(place)
 }
 
 // The number with one digit more, unless that is 2^64 or more.
-pub(crate) fn longer(n: u64, b: u8) -> Number
-    ensures { result ≡ fitting (longer_by 10 (Is n) (digit_of b)) }
+pub(crate) fn longer(n: u64, b: u8) -> Option<u64>
+    ensures { result ≡ fitting (longer_by 10 (Some n) (digit_of b)) }
 {
-    let found = counted(b'0', b'9', 0, b, Number::Not);
-    let Number::Is(d) = found else {
-        return Number::Not;
+    let found = counted(b'0', b'9', 0, b, None);
+    let Some(d) = found else {
+        return None;
     };
     if MOST / 10 < n {
-        return Number::Not;
+        return None;
     }
     let tens = 10 * n;
     if MOST - tens < d {
-        return Number::Not;
+        return None;
     }
     let more = tens + d;
-    Number::Is(more)
+    Some(more)
 }
 
 // Of either case.
-fn hex_digit(b: u8) -> Number
+fn hex_digit(b: u8) -> Option<u64>
     ensures { result ≡ hex_of b }
 {
-    let capital = counted(b'A', b'F', 10, b, Number::Not);
+    let capital = counted(b'A', b'F', 10, b, None);
     let letter = counted(b'a', b'f', 10, b, capital);
     counted(b'0', b'9', 0, b, letter)
 }
 
 // The byte of two digits of hex.
-pub(crate) fn pair(high: u8, low: u8) -> Number
+pub(crate) fn pair(high: u8, low: u8) -> Option<u64>
     ensures { result ≡ byte_of high low }
 {
     let upper = hex_digit(high);
-    let Number::Is(h) = upper else {
-        return Number::Not;
+    let Some(h) = upper else {
+        return None;
     };
     let lower = hex_digit(low);
-    let Number::Is(l) = lower else {
-        return Number::Not;
+    let Some(l) = lower else {
+        return None;
     };
     let b = 16 * h + l;
-    Number::Is(b)
+    Some(b)
 }
 
 // The same, for digits that were looked at; 0 for others.
@@ -71,7 +69,7 @@ pub(crate) fn byte(high: u8, low: u8) -> u8
     ensures { result ≡ or_zero (byte_of high low) }
 {
     let found = pair(high, low);
-    let Number::Is(b) = found else {
+    let Some(b) = found else {
         return 0;
     };
     b as u8

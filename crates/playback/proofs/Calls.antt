@@ -1,18 +1,16 @@
 -- What each call answers, case by case. Assumes nothing.
+use Rattle.std.specs.Prelude.{Ok, Err, Some, None, Option}
 use Prim.Native.Nat.{ℕ, ◌≤◌, ◌<◌}
 use mathlib.Core.Path.{◌≡◌, sym, ap, subst, ◌∙◌}
 use native.Mathlib.Decide.{dec_le, dec_lt}
 use native.Mathlib.Omega.{arith}
 use mathlib.Core.List.{List}
 use lib.ListN.{length, set}
+use Rattle.show.specs.Outcomes.{Check}
 use Rattle.show.specs.declared.refusal.Refusal.{Refusal}
 use Rattle.show.specs.declared.refusal.Refusal.TheVariants as refusal
-use Rattle.show.specs.declared.refusal.Check.{Check}
-use Rattle.show.specs.declared.refusal.Check.TheVariants.{Within, Refused}
 use Rattle.show.proofs.Checks.{unless_kept, unless_broken, first_refused, first_within}
 use Rattle.state.specs.declared.State.{State}
-use Rattle.run.specs.declared.Underway.{Underway}
-use Rattle.run.specs.declared.Underway.TheVariants as underway
 use Rattle.run.specs.declared.Run.{Run}
 use Rattle.run.specs.Run.{span_most, playing, state_at, clip_at, left_at, PutAt, with_states, with_cycle}
 use Rattle.run.specs.Seats.{Seated}
@@ -33,10 +31,10 @@ use Rattle.playback.specs.Parts.{clocks_after, place_after, counted_off}
 use Rattle.playback.proofs.Clocks.{advanced_run}
 use Rattle.playback.proofs.Cycles.{counts_off}
 
-long : (d : ℕ) → span_most < d → span_check d ≡ Refused refusal.TooLong
+long : (d : ℕ) → span_most < d → span_check d ≡ Err refusal.TooLong
 long d l = unless_broken (dec_le d span_most) refusal.TooLong (λ g. let f : ⊥ = omega arith in f)
 
-short : (d : ℕ) → d ≤ span_most → span_check d ≡ Within
+short : (d : ℕ) → d ≤ span_most → span_check d ≡ Ok tt
 short d l = unless_kept (dec_le d span_most) refusal.TooLong l
 
 -- ---- pass
@@ -78,11 +76,11 @@ module _ (r : Run) (i n : ℕ) where
           ∙ sym (take_sound _ _ _ n (s.states i l)) ∙ sym (take_answers (state_at r i) (clip_at r i) r.started n)
           ∙ ap (λ (x : Drawn). x.check) (sym e)
 
-      pub take_handed : (w : Refusal) → d.check ≡ Refused w → ◌≡◌ {A = Moved} (record { check = d.check; run = r }) (take_of r i n)
+      pub take_handed : (w : Refusal) → d.check ≡ Err w → ◌≡◌ {A = Moved} (record { check = d.check; run = r }) (take_of r i n)
       unfolding take_of
       take_handed w f = ap (λ (k : Check). record { check = k; run = r }) f ∙ moved_refused _ r _ w (take_answered ∙ f)
 
-      pub take_granted : d.check ≡ Within → granted (with_states r (set r.states i d.state)) ≡ take_of r i n
+      pub take_granted : d.check ≡ Ok tt → granted (with_states r (set r.states i d.state)) ≡ take_of r i n
       unfolding take_of drawn_at
       take_granted f =
           moved_granted _ r _ _ (take_answered ∙ f)
@@ -102,29 +100,29 @@ module _ (r : Run) (d : ℕ) where
     finish_long l = moved_refused _ r _ refusal.TooLong (sound_then r _ s ∙ first_refused _ _ (long d l))
 
     module _ (l : d ≤ span_most) where
-      pub finish_nothing : r.underway ≡ underway.Nothing → refused r refusal.NothingUnderway ≡ finish_of r d
+      pub finish_nothing : r.underway ≡ None → refused r refusal.NothingUnderway ≡ finish_of r d
       unfolding finish_of finish_check
       finish_nothing e =
           moved_refused _ r _ refusal.NothingUnderway (sound_then r _ s ∙ first_within _ _ (short d l) ∙ ap busy_check e)
 
       pub finish_granted :
-          (i : ℕ) (p q : Run) → r.underway ≡ underway.Read i → p ≡ passed r d → q ≡ landed p i → granted q ≡ finish_of r d
+          (i : ℕ) (p q : Run) → r.underway ≡ Some i → p ≡ passed r d → q ≡ landed p i → granted q ≡ finish_of r d
       unfolding finish_of finish_check
       finish_granted i p q e f g =
           moved_granted _ r _ q (sound_then r _ s ∙ first_within _ _ (short d l) ∙ ap busy_check e)
-          (g ∙ ap (λ (x : Run). landed x i) f ∙ ap (λ (u : Underway). landed_for u (passed r d)) (sym e))
+          (g ∙ ap (λ (x : Run). landed x i) f ∙ ap (λ (u : (Option ℕ)). landed_for u (passed r d)) (sym e))
 
       -- the same from its parts: the states after d µs, the place and what is left
       pub finish_counted :
-          (i : ℕ) (l : List State) (p fresh n : ℕ) → r.underway ≡ underway.Read i → l ≡ clocks_after r.started r.show d r.states →
+          (i : ℕ) (l : List State) (p fresh n : ℕ) → r.underway ≡ Some i → l ≡ clocks_after r.started r.show d r.states →
           p ≡ place_after r.place r.left (playing r) → fresh ≡ left_at r p → n ≡ counted_off r.left fresh →
-          granted (with_cycle (stored (with_states r l) i) p n underway.Nothing) ≡ finish_of r d
+          granted (with_cycle (stored (with_states r l) i) p n None) ≡ finish_of r d
       unfolding landed
       finish_counted i l p fresh n e f g k h =
           finish_granted i (with_states r l) _ e (advanced_run r d l f) (counts_off (stored (with_states r l) i) p g n (h ∙ ap (counted_off r.left) k))
 
 -- A session under way is one of sixteen, and the cycle is somewhere.
-module _ (r : Run) (s : SoundRun r) (i : ℕ) (e : r.underway ≡ underway.Read i) where
+module _ (r : Run) (s : SoundRun r) (i : ℕ) (e : r.underway ≡ Some i) where
   pub read_few : i < 16
   read_few = let b = read_below r s i e in let n = s.within.counts.sessions in omega arith
 
@@ -133,15 +131,15 @@ module _ (r : Run) (s : SoundRun r) (i : ℕ) (e : r.underway ≡ underway.Read 
 
 -- The read under way is still under way after d µs.
 pub passed_reads :
-    (r : Run) (d i : ℕ) (q : Run) → length r.states ≡ 16 → SoundRun r → r.underway ≡ underway.Read i → q ≡ passed r d →
-    SoundRun q × (q.underway ≡ underway.Read i)
+    (r : Run) (d i : ℕ) (q : Run) → length r.states ≡ 16 → SoundRun r → r.underway ≡ Some i → q ≡ passed r d →
+    SoundRun q × (q.underway ≡ Some i)
 unfolding passed
 passed_reads r d i q n s e f =
     (subst SoundRun (sym f) (passed_sound r d (let h = s.within.counts.sessions in omega arith) s), ap (λ (x : Run). x.underway) f ∙ e)
 
 -- Its block keeps to the limit on P.
 pub advanced_put :
-    (r : Run) (d i : ℕ) (l : List State) → length r.states ≡ 16 → SoundRun r → r.underway ≡ underway.Read i →
+    (r : Run) (d i : ℕ) (l : List State) → length r.states ≡ 16 → SoundRun r → r.underway ≡ Some i →
     l ≡ clocks_after r.started r.show d r.states → PutAt (with_states r l) i
 advanced_put r d i l n s e f =
     let p = passed_reads r d i (with_states r l) n s e (advanced_run r d l f) in

@@ -1,4 +1,5 @@
 -- Every call on a run, granted or refused: a sound run stays sound, and refused it is the run that was given. Assumes nothing.
+use Rattle.std.specs.Prelude.{Ok, Err, Some, None, Option}
 use Prim.Native.Nat.{ℕ, ◌-◌, ◌≤◌, ◌<◌}
 use mathlib.Core.Path.{◌≡◌, refl, sym, subst, ◌∙◌}
 use mathlib.Core.Bool.{true}
@@ -7,11 +8,8 @@ use native.Mathlib.Decide.{dec_le, dec_lt}
 use native.Mathlib.Omega.{arith}
 use Rattle.show.specs.declared.refusal.Refusal.{Refusal}
 use Rattle.show.specs.declared.refusal.Refusal.TheVariants as refusal
-use Rattle.show.specs.declared.refusal.Check.TheVariants.{Within, Refused}
 use Rattle.show.specs.Checks.{first}
 use Rattle.show.proofs.Checks.{within_refused, unless_within, first_left, first_right}
-use Rattle.run.specs.declared.Underway.{Underway}
-use Rattle.run.specs.declared.Underway.TheVariants as underway
 use Rattle.run.specs.declared.Run.{Run}
 use Rattle.run.specs.Run.{playing, clip_at, state_at}
 use Rattle.run.specs.Sound.{SoundRun}
@@ -39,7 +37,7 @@ module _ (r : Run) (d : ℕ) where
   unfolding pass_of
   pass_kept = moved_either (pass_check r d) r (passed r d) (Kept r) (same_kept r) (λ e. passed_kept r d)
 
-  pub pass_refused : (w : Refusal) → (pass_of r d).check ≡ Refused w → (pass_of r d).run ≡ r
+  pub pass_refused : (w : Refusal) → (pass_of r d).check ≡ Err w → (pass_of r d).run ≡ r
   unfolding pass_of
   pass_refused = moved_back (pass_check r d) r (passed r d)
 
@@ -52,7 +50,7 @@ record Takes (r : Run) (i n : ℕ) : Type 0 where
   held : n ≤ (state_at r i).put - (state_at r i).taken
 
 module _ (r : Run) (i n : ℕ) where
-  takes : take_check r i n ≡ Within → Takes r i n
+  takes : take_check r i n ≡ Ok tt → Takes r i n
   unfolding take_check
   takes e =
       let late = first (early_check r.started) (held_check (state_at r i) n) in
@@ -76,7 +74,7 @@ module _ (r : Run) (i n : ℕ) where
   unfolding take_of
   take_kept = moved_either (take_check r i n) r (drawn_at r i n) (Kept r) (same_kept r) (λ e. taken_kept r i n (takes e).playing)
 
-  pub take_refused : (w : Refusal) → (take_of r i n).check ≡ Refused w → (take_of r i n).run ≡ r
+  pub take_refused : (w : Refusal) → (take_of r i n).check ≡ Err w → (take_of r i n).run ≡ r
   unfolding take_of
   take_refused = moved_back (take_check r i n) r (drawn_at r i n)
 
@@ -92,14 +90,14 @@ module _ (r : Run) (i n : ℕ) where
 record Finishes (r : Run) : Type 0 where
   sound : SoundRun r
   session : ℕ
-  underway : r.underway ≡ underway.Read session
+  underway : r.underway ≡ Some session
 
-busy : (u : Underway) → busy_check u ≡ Within → (i : ℕ) × (u ≡ underway.Read i)
-busy underway.Nothing e = within_refused (sym e)
-busy (underway.Read i) e = (i, refl)
+busy : (u : (Option ℕ)) → busy_check u ≡ Ok tt → (i : ℕ) × (u ≡ Some i)
+busy None e = within_refused (sym e)
+busy (Some i) e = (i, refl)
 
 module _ (r : Run) (d : ℕ) where
-  finishes : finish_check r d ≡ Within → Finishes r
+  finishes : finish_check r d ≡ Ok tt → Finishes r
   unfolding finish_check
   finishes e =
       let late = first (span_check d) (busy_check r.underway) in
@@ -111,7 +109,7 @@ module _ (r : Run) (d : ℕ) where
 
   -- the next run, by the session under way
   next_either : (P : Run → Type 0) (f : Finishes r) → P (landed (passed r d) f.session) → P next
-  next_either P f h = subst (λ (u : Underway). P (landed_for u (passed r d))) (sym f.underway) h
+  next_either P f h = subst (λ (u : (Option ℕ)). P (landed_for u (passed r d))) (sym f.underway) h
 
   pub finish_sound : length r.states ≡ 16 → SoundRun r → SoundRun (finish_of r d).run
   unfolding finish_of
@@ -136,6 +134,6 @@ module _ (r : Run) (d : ℕ) where
           kept_then r (passed r d) _ (passed_kept r d)
           (landed_kept (passed r d) f.session (read_below (passed r d) p.0 f.session p.1))
 
-  pub finish_refused : (w : Refusal) → (finish_of r d).check ≡ Refused w → (finish_of r d).run ≡ r
+  pub finish_refused : (w : Refusal) → (finish_of r d).check ≡ Err w → (finish_of r d).run ≡ r
   unfolding finish_of
   finish_refused = moved_back (finish_check r d) r next

@@ -1,12 +1,9 @@
 -- What each call answers: docs/RULES.md, section 9.
-use Rattle.std.specs.Prelude.{ℕ}
+use Rattle.std.specs.Prelude.{ℕ, Ok, Err, Some, None, Option}
 use Rattle.std.proofs.Math.Decide.{dec_le}
+use Rattle.show.specs.Outcomes.{Check}
 use Rattle.show.specs.declared.refusal.Refusal.TheVariants as refusal
-use Rattle.show.specs.declared.refusal.Check.{Check}
-use Rattle.show.specs.declared.refusal.Check.TheVariants.{Within, Refused}
 use Rattle.show.specs.Checks.{unless, first}
-use Rattle.run.specs.declared.Underway.{Underway}
-use Rattle.run.specs.declared.Underway.TheVariants as underway
 use Rattle.run.specs.declared.Run.{Run}
 use Rattle.run.specs.Run.{span_most, state_at}
 use Rattle.run.specs.declared.Moved.{Moved}
@@ -40,18 +37,18 @@ take_of r i n = moved (take_check r i n) r (drawn_at r i n)
 -- ---- finish
 
 -- 17: nothing under way
-abbrev pub busy_check : Underway → Check
-busy_check underway.Nothing = Refused refusal.NothingUnderway
-busy_check (underway.Read i) = Within
+abbrev pub busy_check : Option ℕ → Check
+busy_check None = Err refusal.NothingUnderway
+busy_check (Some i) = Ok tt
 
 -- 19, 11, 17
 unfoldable pub finish_check : Run → ℕ → Check
 finish_check r d = first (sound_check r) (first (span_check d) (busy_check r.underway))
 
 -- the block of the session under way
-abbrev pub landed_for : Underway → Run → Run
-landed_for underway.Nothing r = r
-landed_for (underway.Read i) r = landed r i
+abbrev pub landed_for : Option ℕ → Run → Run
+landed_for None r = r
+landed_for (Some i) r = landed r i
 
 -- d µs pass, then the block has come.
 unfoldable pub finish_of : Run → ℕ → Moved

@@ -12,10 +12,10 @@ ghost use Rattle.playback.specs.Parts.{Clocked, clocks_after};
 
 use crate::cycle::{count_off, place_after};
 use player::take_from;
-use run::{Moved, Run, Underway, left_in};
+use run::{Moved, Run, left_in};
 use run_test::{Test, test_run};
 use show::Show;
-use show::refusal::{Check, Refusal};
+use show::refusal::Refusal;
 use state::State;
 
 // C of one session after d µs.
@@ -59,13 +59,13 @@ pub fn pass(mut run: Run, d: u64) -> Moved
 {
     let Test::Sound = test_run(run) else {
         return Moved {
-            check: Check::Refused(Refusal::Damaged),
+            check: Err(Refusal::Damaged),
             run,
         };
     };
     if Run::SPAN_MOST < d {
         return Moved {
-            check: Check::Refused(Refusal::TooLong),
+            check: Err(Refusal::TooLong),
             run,
         };
     }
@@ -74,7 +74,7 @@ pub fn pass(mut run: Run, d: u64) -> Moved
     let next = advance(show, states, run.started, d);
     run.states = next;
     Moved {
-        check: Check::Within,
+        check: Ok(()),
         run,
     }
 }
@@ -85,26 +85,26 @@ pub fn take(mut run: Run, session: usize, n: u64) -> Moved
 {
     let Test::Sound = test_run(run) else {
         return Moved {
-            check: Check::Refused(Refusal::Damaged),
+            check: Err(Refusal::Damaged),
             run,
         };
     };
     if run.show.playing <= session {
         return Moved {
-            check: Check::Refused(Refusal::NoSession),
+            check: Err(Refusal::NoSession),
             run,
         };
     }
     let show = run.show;
     let drawn = take_from(run.states[session], show.sessions[session], run.started, n);
     let check = drawn.check;
-    let Check::Within = check else {
+    let Ok(()) = check else {
         return Moved { check, run };
     };
     let state = drawn.state;
     run.states[session] = state;
     Moved {
-        check: Check::Within,
+        check: Ok(()),
         run,
     }
 }
@@ -125,20 +125,20 @@ pub fn finish(run: Run, d: u64) -> Moved
 {
     let Test::Sound = test_run(run) else {
         return Moved {
-            check: Check::Refused(Refusal::Damaged),
+            check: Err(Refusal::Damaged),
             run,
         };
     };
     if Run::SPAN_MOST < d {
         return Moved {
-            check: Check::Refused(Refusal::TooLong),
+            check: Err(Refusal::TooLong),
             run,
         };
     }
     let underway = run.underway;
-    let Underway::Read(session) = underway else {
+    let Some(session) = underway else {
         return Moved {
-            check: Check::Refused(Refusal::NothingUnderway),
+            check: Err(Refusal::NothingUnderway),
             run,
         };
     };
@@ -150,7 +150,7 @@ pub fn finish(run: Run, d: u64) -> Moved
     states[session] = fill(states[session], show.drive.block);
     let place = place_after(run.place, run.left, show.playing);
     Moved {
-        check: Check::Within,
+        check: Ok(()),
         run: Run {
             show,
             counts,
@@ -158,7 +158,7 @@ pub fn finish(run: Run, d: u64) -> Moved
             order,
             place,
             left: count_off(run.left, left_in(counts, order, place)),
-            underway: Underway::Nothing,
+            underway: None,
             started: run.started,
         },
     }

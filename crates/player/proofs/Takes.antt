@@ -1,14 +1,14 @@
 -- What a take answers, case by case. Assumes nothing.
+use Rattle.std.specs.Prelude.{Ok, Err}
 use Prim.Native.Nat.{ℕ, ◌-◌, ◌≤◌, ◌<◌}
 use mathlib.Core.Path.{◌≡◌, sym, ap, ◌∙◌}
 use mathlib.Core.Bool.{Bool, true, false}
 use native.Mathlib.Decide.{dec_le}
 use native.Mathlib.Omega.{arith}
+use Rattle.show.specs.Outcomes.{Check}
 use Rattle.show.specs.declared.Session.{Session}
 use Rattle.show.specs.declared.refusal.Refusal.{Refusal}
 use Rattle.show.specs.declared.refusal.Refusal.TheVariants as refusal
-use Rattle.show.specs.declared.refusal.Check.{Check}
-use Rattle.show.specs.declared.refusal.Check.TheVariants.{Within, Refused}
 use Rattle.show.specs.Checks.{first}
 use Rattle.show.proofs.Checks.{unless_kept, unless_broken, first_refused, first_within}
 use Rattle.state.specs.declared.State.{State}
@@ -19,7 +19,7 @@ use Rattle.player.specs.declared.Drawn.{Drawn}
 use Rattle.player.specs.Answers.{early_check, held_check, take_check, drawn_by, drawn_of}
 
 abbrev refused : State → Refusal → Drawn
-refused s w = record { check = Refused w; state = s }
+refused s w = record { check = Err w; state = s }
 
 module _ (s : State) (x : Session) (started : Bool) (n : ℕ) where
   by_check : (c : Check) → take_check started x s n ≡ c → drawn_by c s (drawn n s) ≡ drawn_of s x started n
@@ -50,5 +50,5 @@ module _ (s : State) (x : Session) (started : Bool) (n : ℕ) where
           by_check _ (begun ∙ unless_broken (dec_le n (s.put - s.taken)) refusal.TooMuch (λ g. let f : ⊥ = omega arith in f))
 
       pub take_granted :
-          n ≤ s.put - s.taken → ◌≡◌ {A = Drawn} (record { check = Within; state = drawn n s }) (drawn_of s x started n)
+          n ≤ s.put - s.taken → ◌≡◌ {A = Drawn} (record { check = Ok tt; state = drawn n s }) (drawn_of s x started n)
       take_granted l = by_check _ (begun ∙ unless_kept (dec_le n (s.put - s.taken)) refusal.TooMuch l)

@@ -1,10 +1,9 @@
 -- What a take answers, on one session's state: docs/RULES.md, section 10.
-use Rattle.std.specs.Prelude.{ℕ, ◌-◌, Bool}
+use Rattle.std.specs.Prelude.{ℕ, ◌-◌, Bool, Ok, Err, true}
 use Rattle.std.proofs.Math.Decide.{dec_le}
+use Rattle.show.specs.Outcomes.{Check}
 use Rattle.show.specs.declared.Session.{Session}
 use Rattle.show.specs.declared.refusal.Refusal.TheVariants as refusal
-use Rattle.show.specs.declared.refusal.Check.{Check}
-use Rattle.show.specs.declared.refusal.Check.TheVariants.{Within, Refused}
 use Rattle.show.specs.Checks.{unless, first}
 use Rattle.state.specs.declared.State.{State}
 use Rattle.state.specs.Decisions.{true?, state?}
@@ -29,8 +28,8 @@ take_check started x s n = first (state_check started x s) (first (early_check s
 
 -- Granted, the next state; refused, the state that was given.
 abbrev pub drawn_by : Check → State → State → Drawn
-drawn_by Within s next = record { check = Within; state = next }
-drawn_by (Refused w) s next = record { check = Refused w; state = s }
+drawn_by (Ok tt) s next = record { check = Ok tt; state = next }
+drawn_by (Err w) s next = record { check = Err w; state = s }
 
 unfoldable pub drawn_of : State → Session → Bool → ℕ → Drawn
 drawn_of s x started n = drawn_by (take_check started x s n) s (drawn n s)

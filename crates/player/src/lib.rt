@@ -5,13 +5,13 @@ ghost use Rattle.std.specs.Prelude.{◌≡◌};
 ghost use Rattle.player.specs.Answers.{drawn_of};
 
 use show::Session;
-use show::refusal::{Check, Refusal};
+use show::refusal::Refusal;
 use state::State;
 
 // What a take answers, and the state after it: the next one, or the one that was given.
 #[derive(Clone, Copy)]
 pub struct Drawn {
-    pub check: Check,
+    pub check: Result<(), Refusal>,
     pub state: State,
 }
 
@@ -21,32 +21,32 @@ pub fn take_from(state: State, session: Session, started: bool, n: u64) -> Drawn
 {
     if !state.within(session, started) {
         return Drawn {
-            check: Check::Refused(Refusal::Damaged),
+            check: Err(Refusal::Damaged),
             state,
         };
     }
     if !started {
         return Drawn {
-            check: Check::Refused(Refusal::NotStarted),
+            check: Err(Refusal::NotStarted),
             state,
         };
     }
     if state.put - state.taken < n {
         return Drawn {
-            check: Check::Refused(Refusal::TooMuch),
+            check: Err(Refusal::TooMuch),
             state,
         };
     }
     let mut next = state;
     next.taken += n;
     Drawn {
-        check: Check::Within,
+        check: Ok(()),
         state: next,
     }
 }
 
 // The same on a state that the player lends.
-pub fn take(state: &mut State, session: Session, started: bool, n: u64) -> Check
+pub fn take(state: &mut State, session: Session, started: bool, n: u64) -> Result<(), Refusal>
     ensures { (result ≡ (drawn_of state.old session started n).check) × (state.new ≡ (drawn_of state.old session started n).state) }
 {
     let drawn = take_from(*state, session, started, n);

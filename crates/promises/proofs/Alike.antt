@@ -1,4 +1,5 @@
 -- Runs that differ in unused places alone: what holds of one holds of the other. Assumes nothing.
+use Rattle.std.specs.Prelude.{Some}
 use Prim.Native.Nat.{ℕ, ◌+◌, ◌%◌, ◌<◌}
 use mathlib.Core.Path.{◌≡◌, refl, sym, ap, ap₂, subst, ◌∙◌}
 use mathlib.Core.Bool.{Bool}
@@ -15,7 +16,6 @@ use Rattle.theory.proofs.Rounds.{good_same}
 use Rattle.theory.proofs.Shows.{alike_back, alike_good}
 use Rattle.verdict.specs.Answers.{set_of}
 use Rattle.state.specs.declared.State.{State}
-use Rattle.run.specs.declared.Underway.TheVariants as underway
 use Rattle.run.specs.declared.Run.{Run}
 use Rattle.state.specs.State.{Room, StateSound}
 use Rattle.run.specs.Run.{playing, state_at, clip_at, count_at, seat_at, whole_at, left_in, left_at, onward, RoomAt, PutAt}
@@ -123,7 +123,7 @@ module _ (r q : Run) (a : AlikeRuns r q) where
         let t = s.cycle.empty e in
         record { place = sym a.place ∙ t.place; left = sym a.left ∙ t.left; underway = sym a.underway ∙ t.underway }
 
-    reads : (i : ℕ) → q.underway ≡ underway.Read i → MayRead q i
+    reads : (i : ℕ) → q.underway ≡ Some i → MayRead q i
     reads i e =
         let f = a.underway ∙ e in
         let m = s.cycle.underway i f in

@@ -1,4 +1,5 @@
 -- Runs that differ in unused places alone: answers by their check, and a step leaves them so. Assumes nothing.
+use Rattle.std.specs.Prelude.{Ok, Err, Option}
 use Prim.Native.Nat.{ℕ, ◌≤◌, ◌<◌}
 use mathlib.Core.Path.{◌≡◌, refl, sym, ap, ap₂, subst, ◌∙◌}
 use mathlib.Core.Bool.{Bool, true, false}
@@ -8,15 +9,13 @@ use mathlib.Core.List.{List}
 use lib.IntN.{ℤ}
 use lib.ListN.{length, get_or, set}
 use lib.Seq.{get_or-set_same, get_or-set_other}
+use Rattle.show.specs.Outcomes.{Check}
 use Rattle.show.specs.declared.Session.{Session}
 use Rattle.show.specs.declared.refusal.Refusal.TheVariants as refusal
-use Rattle.show.specs.declared.refusal.Check.{Check}
-use Rattle.show.specs.declared.refusal.Check.TheVariants.{Within, Refused}
 use Rattle.show.specs.Checks.{unless, first}
 use Rattle.show.proofs.Checks.{unless_within, first_left}
 use Rattle.showfile_write.proofs.Unused.{told_same}
 use Rattle.state.specs.declared.State.{State}
-use Rattle.run.specs.declared.Underway.{Underway}
 use Rattle.run.specs.declared.Run.{Run}
 use Rattle.state.specs.State.{no_state, ticked, drawn}
 use Rattle.run.specs.Run.{playing, state_at, with_states, with_cycle}
@@ -25,7 +24,6 @@ use Rattle.run.specs.Decisions.{sound?, sound_check}
 use Rattle.run.specs.Answers.{moved, present_check}
 use Rattle.run.specs.Steps.{ticked_at, states_after, passed, drawn_at}
 use Rattle.run.proofs.Changed.{changed_below}
-use Rattle.workahead.specs.declared.Spare.TheVariants as spare
 use Rattle.spare.specs.Answers.{spared}
 use Rattle.promises.specs.Runs.{Sized}
 use Rattle.promises.proofs.Runs.{few}
@@ -34,27 +32,27 @@ use Rattle.promises.specs.Unseen.{AlikeRuns, SameMoved, SameSpared}
 -- ---- answers by their check
 
 -- Later tests need be the same only where those before them are passed.
-pub first_same : (x y : Check) {c d : Check} → x ≡ y → (x ≡ Within → c ≡ d) → first x c ≡ first y d
+pub first_same : (x y : Check) {c d : Check} → x ≡ y → (x ≡ Ok tt → c ≡ d) → first x c ≡ first y d
 first_same x y e f = told_same first (λ w c d. refl) x y _ _ e f
 
 pub moved_same :
-    (k j : Check) (r q a b : Run) → k ≡ j → AlikeRuns r q → (k ≡ Within → AlikeRuns a b) → SameMoved (moved k r a) (moved j q b)
+    (k j : Check) (r q a b : Run) → k ≡ j → AlikeRuns r q → (k ≡ Ok tt → AlikeRuns a b) → SameMoved (moved k r a) (moved j q b)
 moved_same k j r q a b e h f = subst (λ (x : Check). SameMoved (moved k r a) (moved x q b)) e (from k refl)
   where
     from : (x : Check) → k ≡ x → SameMoved (moved x r a) (moved x q b)
-    from Within g = (refl, f g)
-    from (Refused w) g = (refl, h)
+    from (Ok tt) g = (refl, f g)
+    from (Err w) g = (refl, h)
 
 pub spared_same :
-    (k j : Check) (z y : ℤ) (r q : Run) → k ≡ j → AlikeRuns r q → (k ≡ Within → z ≡ y) → SameSpared (spared k z r) (spared j y q)
+    (k j : Check) (z y : ℤ) (r q : Run) → k ≡ j → AlikeRuns r q → (k ≡ Ok tt → z ≡ y) → SameSpared (spared k z r) (spared j y q)
 spared_same k j z y r q e h f = subst (λ (x : Check). SameSpared (spared k z r) (spared x y q)) e (from k refl)
   where
     from : (x : Check) → k ≡ x → SameSpared (spared x z r) (spared x y q)
-    from Within g = (ap spare.Time (f g), h)
-    from (Refused w) g = (refl, h)
+    from (Ok tt) g = (ap Ok (f g), h)
+    from (Err w) g = (refl, h)
 
 -- 19 is passed by a sound run alone.
-pub sound_passed : (r : Run) (c : Check) → first (sound_check r) c ≡ Within → SoundRun r
+pub sound_passed : (r : Run) (c : Check) → first (sound_check r) c ≡ Ok tt → SoundRun r
 sound_passed r c e = unless_within (sound? r) refusal.Damaged (first_left (sound_check r) c e)
 
 -- ---- parts changed
@@ -85,7 +83,7 @@ module _ (r q : Run) (a : AlikeRuns r q) where
       }
 
   pub cycle_alike :
-      (p o k j : ℕ) (u v : Underway) → p ≡ o → k ≡ j → u ≡ v → AlikeRuns (with_cycle r p k u) (with_cycle q o j v)
+      (p o k j : ℕ) (u v : (Option ℕ)) → p ≡ o → k ≡ j → u ≡ v → AlikeRuns (with_cycle r p k u) (with_cycle q o j v)
   cycle_alike p o k j u v e f g =
       record {
         show = a.show;

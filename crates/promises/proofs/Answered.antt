@@ -1,4 +1,5 @@
 -- That there is an answer. Assumes nothing.
+use Rattle.std.specs.Prelude.{Ok, Err, true, false}
 use Prim.Native.Nat.{ℕ, ◌+◌, ◌≤◌, ◌<◌}
 use mathlib.Core.Path.{◌≡◌, refl}
 use mathlib.Core.List.{List}
@@ -7,10 +8,9 @@ use native.Mathlib.Omega.{arith}
 use native.Mathlib.Nat.{le_of_lt}
 use native.Mathlib.Decide.{dec_le}
 use lib.ListN.{length}
+use Rattle.show.specs.Outcomes.{Check}
 use Rattle.show.specs.declared.Show.{Show}
 use Rattle.show.specs.declared.refusal.Refusal.TheVariants.{NoSet, BufferShort}
-use Rattle.show.specs.declared.refusal.Check.{Check}
-use Rattle.show.specs.declared.refusal.Check.TheVariants.{Within, Refused}
 use Rattle.show.specs.Limits.{ShowWithin}
 use Rattle.show.specs.Checks.{show_check}
 use Rattle.show.proofs.Shows.{check_within}
@@ -26,7 +26,6 @@ use Rattle.showfile.specs.Answers.{read_of, written, written_over}
 use Rattle.showfile.proofs.Readable.{read_within}
 use Rattle.verdict.specs.declared.Decision.{Decision}
 use Rattle.trial.specs.declared.Trial.{Trial}
-use Rattle.trial.specs.declared.Answer.TheVariants as answer
 use Rattle.verdict.specs.Answers.{DecisionIs, accepted, no_set, outside, accepted_with, refused_for, set_of}
 use Rattle.trial.specs.Answers.{TrialIs, holds, fails, untried, timed_as, untried_for}
 use Rattle.verdict.proofs.Once.{within_outside}
@@ -83,22 +82,22 @@ module _ (s : Show) (w : ShowWithin s) where
   tried_within m = from (good? (load_of s) (set_of m))
     where
       from : Dec (Good (load_of s) (set_of m)) → (t : Trial) × TrialIs s m t
-      from (yes g) = (timed_as answer.Holds (load_of s) (set_of m), holds w g)
-      from (no n) = (timed_as answer.Fails (load_of s) (set_of m), fails w n)
+      from (yes g) = (timed_as (Ok true) (load_of s) (set_of m), holds w g)
+      from (no n) = (timed_as (Ok false) (load_of s) (set_of m), fails w n)
 
 decided : (s : Show) → (d : Decision) × DecisionIs s d
 decided s = from (show_check s) refl
   where
     from : (k : Check) → show_check s ≡ k → (d : Decision) × DecisionIs s d
-    from Within e = decided_within s (check_within s e)
-    from (Refused w) e = (refused_for w, outside w e)
+    from (Ok tt) e = decided_within s (check_within s e)
+    from (Err w) e = (refused_for w, outside w e)
 
 tried : (s : Show) (m : List ℕ) → (t : Trial) × TrialIs s m t
 tried s m = from (show_check s) refl
   where
     from : (k : Check) → show_check s ≡ k → (t : Trial) × TrialIs s m t
-    from Within e = tried_within s (check_within s e) m
-    from (Refused w) e = (untried_for w, untried w e)
+    from (Ok tt) e = tried_within s (check_within s e) m
+    from (Err w) e = (untried_for w, untried w e)
 
 -- ---- texts
 
@@ -108,11 +107,11 @@ told_by :
 told_by is most t h b = from (dec_le most (length b))
   where
     from : Dec (most ≤ length b) → (r : Written) × ((x : List ℕ) × ToldIs is most b r x)
-    from (yes l) = (written Within (length t), (written_over Within t b, told t h l))
-    from (no l) = (written (Refused BufferShort) 0, (b, short (omega arith)))
+    from (yes l) = (written (Ok tt) (length t), (written_over (Ok tt) t b, told t h l))
+    from (no l) = (written (Err BufferShort) 0, (b, short (omega arith)))
 
 module _ (f : List ℕ) where
-  text_by : (read_of f).check ≡ Within → (d : Decision) → DecisionIs (read_of f).show d → (t : List ℕ) × TextIs f t
+  text_by : (read_of f).check ≡ Ok tt → (d : Decision) → DecisionIs (read_of f).show d → (t : List ℕ) × TextIs f t
   text_by e d (accepted m w h) = (accepted_text (load_in f) m, granted m e h)
   text_by e d (no_set w none) = (refused_text NoSet, eight e none)
   text_by e d (outside w out) = within_outside (read_of f).show w (read_within f e) out
@@ -121,16 +120,16 @@ module _ (f : List ℕ) where
   text = from (read_of f).check refl
     where
       from : (k : Check) → (read_of f).check ≡ k → (t : List ℕ) × TextIs f t
-      from Within e = let d = decided (read_of f).show in text_by e d.0 d.1
-      from (Refused w) e = (refused_text w, unread w e)
+      from (Ok tt) e = let d = decided (read_of f).show in text_by e d.0 d.1
+      from (Err w) e = (refused_text w, unread w e)
 
   said : (t : List ℕ) × SaidIs f t
   said = from (read_of f).check refl
     where
       from : (k : Check) → (read_of f).check ≡ k → (t : List ℕ) × SaidIs f t
-      from Within e =
+      from (Ok tt) e =
           let r = reason_given (read_of f).show in (reason_text r.0 (tenths (load_of (read_of f).show)), because r.0 e r.1)
-      from (Refused w) e = (refusal_text w, saying.unread w e)
+      from (Err w) e = (refusal_text w, saying.unread w e)
 
 pub answered : Answered
 answered =

@@ -3,7 +3,7 @@ use Prim.Native.Nat.{ℕ}
 use mathlib.Core.Path.{◌≡◌, ap, subst}
 use mathlib.Core.Bool.{not}
 use lib.Dec.{T, T_not, eqb, eqb_refl}
-use Rattle.show.specs.declared.refusal.Check.{Check}
+use Rattle.show.specs.Outcomes.{Check}
 use Rattle.show.specs.Outcomes.{Outcome, check_outcome}
 
 -- Two that come to different numbers are not the same.

@@ -1,5 +1,6 @@
 -- Pairs of runs as demand 3 compares them, with the slack of each: a session left out, a rate lowered, and a rate lowered behind the
 -- cushion, where the lighter has less. Each is computed. Assumes nothing.
+use Rattle.std.specs.Prelude.{Ok, true, false}
 use Prim.Native.Nat.{ℕ, zero, suc, ◌≤◌, ◌<◌}
 use mathlib.Core.Path.{◌≡◌, refl, sym, ap}
 use mathlib.Core.List.{[], ◌∷◌}
@@ -26,7 +27,6 @@ use Rattle.run.specs.Sound.{SoundRun}
 use Rattle.state.specs.Decisions.{false?, true?, waiting?, state?}
 use Rattle.run.specs.Decisions.{below?, some?, show?, good?}
 use Rattle.run.specs.Decisions.{named?, nothing?, room?, put?, may_read?, underway?, cycle?, sound?}
-use Rattle.workahead.specs.declared.Spare.TheVariants.{Time}
 use Rattle.standing.specs.Times.{slack_time}
 use Rattle.spare.specs.declared.Spared.{Spared}
 use Rattle.spare.specs.Answers.{slack_of}
@@ -40,7 +40,7 @@ use Rattle.promises.proofs.Worked.{told, from_told}
 
 record Timed (r : Run) (z : ℤ) : Type 0 where
   sound : SoundRun r
-  slack : (slack_of r).spare ≡ Time z
+  slack : (slack_of r).spare ≡ Ok z
 
 timed : (r : Run) (z : ℤ) → T (told (sound? r)) → 0 < playing r → z ≡ slack_time r → Timed r z
 timed r z t l e =

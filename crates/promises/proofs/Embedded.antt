@@ -1,4 +1,5 @@
 -- The calls for C. Assumes nothing.
+use Rattle.std.specs.Prelude.{Ok, Err, Some, None, Result, Option}
 use Prim.Native.Nat.{ℕ, ◌≤◌, ◌<◌}
 use mathlib.Core.Path.{◌≡◌, refl}
 use mathlib.Core.List.{List, [], ◌∷◌}
@@ -7,16 +8,13 @@ use mathlib.Core.Logic.{◌↔◌}
 use native.Mathlib.Decide.{dec_le}
 use native.Mathlib.Omega.{arith}
 use lib.ListN.{length, length-append}
+use Rattle.show.specs.Outcomes.{Check}
 use Rattle.show.specs.declared.refusal.Refusal.{Refusal}
 use Rattle.show.specs.declared.refusal.Refusal.TheVariants.{NoSet, BufferShort}
-use Rattle.show.specs.declared.refusal.Check.{Check}
-use Rattle.show.specs.declared.refusal.Check.TheVariants as check
 use Rattle.show.specs.Refusals.{number_of, place_of}
 use Rattle.show.specs.Decisions.{decided}
 use Rattle.showfile.specs.Answers.{read_of}
 use Rattle.verdict.specs.declared.Decision.{Decision}
-use Rattle.verdict.specs.declared.Verdict.{Verdict}
-use Rattle.verdict.specs.declared.Verdict.TheVariants as verdict
 use Rattle.verdict.specs.Answers.{refused_for}
 use Rattle.verdict.proofs.Decisions.{accepted_refused}
 use Rattle.reason.specs.declared.Reason.{Reason}
@@ -40,9 +38,9 @@ use Rattle.promises.proofs.Says.{says, grants_among, when_among, file_among}
 
 -- ---- answers
 
-yes_alone : (v : Verdict) → (verdict_code v ≡ 0) ↔ (v ≡ verdict.Accepted)
-yes_alone verdict.Accepted = (λ e. refl, λ e. refl)
-yes_alone (verdict.Refused w) = (λ e. absurd (code_some w e), λ e. accepted_refused e)
+yes_alone : (v : Check) → (verdict_code v ≡ 0) ↔ (v ≡ Ok tt)
+yes_alone (Ok tt) = (λ e. refl, λ e. refl)
+yes_alone (Err w) = (λ e. absurd (code_some w e), λ e. accepted_refused e)
 
 enough? : (b : Slices) → Dec (Enough b)
 enough? b =
@@ -54,15 +52,15 @@ module _ (f : List ℕ) where
   file_decided = from (read_of f).check refl
     where
       from : (k : Check) → (read_of f).check ≡ k → (d : Decision) × FileDecisionIs f d
-      from check.Within e = let d = answered.deciding (read_of f).show in (d.0, answers.read d.0 e d.1)
-      from (check.Refused w) e = (refused_for w, answers.unread w e)
+      from (Ok tt) e = let d = answered.deciding (read_of f).show in (d.0, answers.read d.0 e d.1)
+      from (Err w) e = (refused_for w, answers.unread w e)
 
-  file_reasoned : (r : Reason) × FileReasonIs f r
+  file_reasoned : (r : (Result (Option Reason) Refusal)) × FileReasonIs f r
   file_reasoned = from (read_of f).check refl
     where
-      from : (k : Check) → (read_of f).check ≡ k → (r : Reason) × FileReasonIs f r
-      from check.Within e = let r = reason_given (read_of f).show in (r.0, answers.read r.0 e r.1)
-      from (check.Refused w) e = (reason.Refused w, answers.unread w e)
+      from : (k : Check) → (read_of f).check ≡ k → (r : (Result (Option Reason) Refusal)) × FileReasonIs f r
+      from (Ok tt) e = let r = reason_given (read_of f).show in (r.0, answers.read r.0 e r.1)
+      from (Err w) e = (Err w, answers.unread w e)
 
   decides : (b : Slices) → (r : ℕ) × ((x : Slices) × DecidedIs f b r x)
   decides b = from (enough? b)
@@ -97,20 +95,20 @@ says_reasoning f b r x h =
 
 -- ---- what is left
 
-kept_by : (v : Verdict) (d : Decision) (b : Slices) → (verdict_code v ≡ 0 → ⊥) → filled_by v d b ≡ b
-kept_by verdict.Accepted d b n = absurd (n refl)
-kept_by (verdict.Refused w) d b n = refl
+kept_by : (v : Check) (d : Decision) (b : Slices) → (verdict_code v ≡ 0 → ⊥) → filled_by v d b ≡ b
+kept_by (Ok tt) d b n = absurd (n refl)
+kept_by (Err w) d b n = refl
 
 kept_deciding : (f : List ℕ) (b : Slices) (r : ℕ) (x : Slices) → DecidedIs f b r x → (r ≡ 0 → ⊥) → x ≡ b
 kept_deciding f b r x (answers.short h) n = refl
 kept_deciding f b r x (answers.decided d h k) n = kept_by d.verdict d b n
 
-reason_kept : (p : Reason) (b : List ℕ) → (reason_code p ≡ 0 → ⊥) → reason_over p b ≡ b
-reason_kept reason.None b n = absurd (n refl)
-reason_kept reason.Overload b n = absurd (n refl)
-reason_kept reason.Beyond b n = absurd (n refl)
-reason_kept (reason.Buffer i size) b n = absurd (n refl)
-reason_kept (reason.Refused w) b n = refl
+reason_kept : (p : (Result (Option Reason) Refusal)) (b : List ℕ) → (reason_code p ≡ 0 → ⊥) → reason_over p b ≡ b
+reason_kept (Ok None) b n = absurd (n refl)
+reason_kept (Ok (Some reason.Overload)) b n = absurd (n refl)
+reason_kept (Ok (Some reason.Beyond)) b n = absurd (n refl)
+reason_kept (Ok (Some (reason.Buffer i size))) b n = absurd (n refl)
+reason_kept (Err w) b n = refl
 
 kept_reasoning : (f b : List ℕ) (r : ℕ) (x : List ℕ) → ReasonedIs f b r x → (r ≡ 0 → ⊥) → x ≡ b
 kept_reasoning f b r x (answers.short h) n = refl

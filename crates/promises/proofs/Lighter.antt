@@ -1,4 +1,5 @@
 -- Lighter shows, by the laws of lighter loads. Assumes nothing.
+use Rattle.std.specs.Prelude.{Ok}
 use Prim.Native.Nat.{ℕ, ◌*◌, ◌≤◌}
 use mathlib.Core.Path.{◌≡◌, refl, sym, ap, subst}
 use native.Mathlib.Omega.{arith}
@@ -12,7 +13,6 @@ use Rattle.theory.specs.Shows.{load_of, Lightened, left_out, without, stood_at}
 use Rattle.theory.proofs.Lighter.{lighter_accepted, lighter_counts, lighter_times, lighter_rounds}
 use Rattle.theory.proofs.Shows.{show_sound, lightened_lighter, left_out_within, lightened_drive, load_lighter, tenths_lighter}
 use Rattle.verdict.specs.declared.Decision.{Decision}
-use Rattle.verdict.specs.declared.Verdict.TheVariants as verdict
 use Rattle.verdict.specs.Answers.{DecisionIs, accepted_with}
 use Rattle.verdict.proofs.Sets.{set_of_row}
 use Rattle.verdict.proofs.Decisions.{accepted_set, accepted_if}
@@ -37,7 +37,7 @@ no_worse a b e s t p m x y =
 
 lighter :
     (a b : Show) (e : ℕ → ℕ) → Lightened a b e → ShowWithin a → (d f : Decision) → DecisionIs a d → DecisionIs b f →
-    f.verdict ≡ verdict.Accepted → NoWorse a.playing e d f
+    f.verdict ≡ Ok tt → NoWorse a.playing e d f
 lighter a b e t w d f g h yes-heavy =
     let u = lightened_lighter a b e t in
     let y = accepted_set b f h yes-heavy in

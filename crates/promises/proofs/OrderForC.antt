@@ -1,12 +1,12 @@
 -- The calls for C: the one number, and the order in which it tells refusals. Assumes nothing.
+use Rattle.std.specs.Prelude.{Ok, Err, Result, Option}
 use Prim.Native.Nat.{ℕ, ◌/◌, ◌%◌, ◌<◌}
 use mathlib.Core.Path.{◌≡◌, refl, sym, subst, ◌∙◌}
 use mathlib.Core.List.{List, []}
 use native.Mathlib.Omega.{arith}
 use lib.ListN.{length}
+use Rattle.show.specs.Outcomes.{Check}
 use Rattle.show.specs.declared.refusal.Refusal.{Refusal}
-use Rattle.show.specs.declared.refusal.Check.{Check}
-use Rattle.show.specs.declared.refusal.Check.TheVariants as check
 use Rattle.show.specs.Refusals.{number_of, place_of}
 use Rattle.show.specs.Outcomes.{Outcome, granted, refused_by}
 use Rattle.show.proofs.Checks.{within_refused}
@@ -15,8 +15,6 @@ use Rattle.showfile.specs.Answers.{read_of}
 use Rattle.showfile.proofs.Readable.{read_within}
 use Rattle.theory.specs.Counts.{Accepted}
 use Rattle.verdict.specs.declared.Decision.{Decision}
-use Rattle.verdict.specs.declared.Verdict.{Verdict}
-use Rattle.verdict.specs.declared.Verdict.TheVariants as verdict
 use Rattle.verdict.specs.Answers.{verdict_outcome}
 use Rattle.reason.specs.declared.Reason.{Reason}
 use Rattle.reason.specs.Answers.{ReasonIs}
@@ -45,21 +43,21 @@ code_some w e = let n = numbered.number w in omega arith
 pub code_outcome_is : (w : Refusal) → code_outcome (code_of w) ≡ refused_by w
 code_outcome_is w = rw (code_number w, code_place w)
 
-verdict_outcome_is : (v : Verdict) → code_outcome (verdict_code v) ≡ verdict_outcome v
-verdict_outcome_is verdict.Accepted = refl
-verdict_outcome_is (verdict.Refused w) = code_outcome_is w
+verdict_outcome_is : (v : Check) → code_outcome (verdict_code v) ≡ verdict_outcome v
+verdict_outcome_is (Ok tt) = refl
+verdict_outcome_is (Err w) = code_outcome_is w
 
 -- ---- the order
 
 module _ (f : List ℕ) where
   -- a file that is refused is told by its check, ..
-  unread_tells : (w : Refusal) {rest : Outcome → Type 0} → (read_of f).check ≡ check.Refused w → FileThen f rest (refused_by w)
+  unread_tells : (w : Refusal) {rest : Outcome → Type 0} → (read_of f).check ≡ Err w → FileThen f rest (refused_by w)
   unread_tells w {rest} e =
       let k = sym (read_check_is f) ∙ e in
       subst (λ (k : Check). FileThen f rest (after k (granted []))) k (file_tells f (granted []) (λ h. within_refused (sym h ∙ k)))
 
   -- .. another by what comes of its show
-  read_tells : (o : Outcome) {rest : Outcome → Type 0} → (read_of f).check ≡ check.Within → rest o → FileThen f rest o
+  read_tells : (o : Outcome) {rest : Outcome → Type 0} → (read_of f).check ≡ Ok tt → rest o → FileThen f rest o
   read_tells o {rest} e g =
       subst (λ (k : Check). FileThen f rest (after k o)) (sym (read_check_is f) ∙ e) (file_tells f o (λ h. g))
 
@@ -76,14 +74,14 @@ module _ (f : List ℕ) where
   decided_tells b r x (answers.decided d h k) =
       record { present = λ n. absurd (n h); absent = λ c. rw (verdict_outcome_is d.verdict) (file_decided_tells d k) }
 
-  reason_grants : (p : Reason) → (read_of f).check ≡ check.Within → ReasonIs (read_of f).show p → Grants (code_outcome (reason_code p))
+  reason_grants : (p : (Result (Option Reason) Refusal)) → (read_of f).check ≡ Ok tt → ReasonIs (read_of f).show p → Grants (code_outcome (reason_code p))
   reason_grants p e (why.none h a) = refl
   reason_grants p e (why.overload h a) = refl
   reason_grants p e (why.beyond h a) = refl
   reason_grants p e (why.buffer i size h a) = refl
   reason_grants p e (why.outside w out) = within_refused (sym (within_check (read_of f).show (read_within f e)) ∙ out)
 
-  file_reasoned_tells : (p : Reason) → FileReasonIs f p → FileThen f Grants (code_outcome (reason_code p))
+  file_reasoned_tells : (p : (Result (Option Reason) Refusal)) → FileReasonIs f p → FileThen f Grants (code_outcome (reason_code p))
   file_reasoned_tells p (answers.read _ e h) = read_tells (code_outcome (reason_code p)) e (reason_grants p e h)
   file_reasoned_tells p (answers.unread w e) = rw (code_outcome_is w) (unread_tells w e)
 

@@ -1,12 +1,12 @@
 -- The order of refusals of the calls on a file. Assumes nothing.
+use Rattle.std.specs.Prelude.{Ok}
 use Prim.Native.Nat.{ℕ, ◌<◌}
 use mathlib.Core.Path.{◌≡◌, refl, ap, ◌∙◌}
 use mathlib.Core.List.{List, []}
 use native.Mathlib.Omega.{arith}
 use lib.ListN.{length}
+use Rattle.show.specs.Outcomes.{Check}
 use Rattle.show.specs.declared.Show.{Show}
-use Rattle.show.specs.declared.refusal.Check.{Check}
-use Rattle.show.specs.declared.refusal.Check.TheVariants.{Within}
 use Rattle.show.specs.Decisions.{between?, counts?}
 use Rattle.show.specs.Checks.{first, limits_check}
 use Rattle.show.specs.Outcomes.{Outcome, granted, check_outcome}
@@ -31,7 +31,7 @@ abbrev pub file_check : List ℕ → Check
 file_check f = read_check f (trailer_at f) (trailer_in f)
 
 pub file_tells :
-    (f : List ℕ) (o : Outcome) {rest : Outcome → Type 0} → (file_check f ≡ Within → rest o) → FileThen f rest (after (file_check f) o)
+    (f : List ℕ) (o : Outcome) {rest : Outcome → Type 0} → (file_check f ≡ Ok tt → rest o) → FileThen f rest (after (file_check f) o)
 unfolding read_check trailer_check
 file_tells f o g =
     let at = trailer_at f in

@@ -1,4 +1,5 @@
 -- The order of refusals of the calls on a run. Assumes nothing.
+use Rattle.std.specs.Prelude.{Some, None, Option, ℤ}
 use Prim.Native.Nat.{ℕ, ◌-◌, ◌≤◌, ◌<◌}
 use mathlib.Core.Path.{◌≡◌, refl, sym, subst}
 use mathlib.Core.Bool.{Bool, true, false}
@@ -10,8 +11,6 @@ use Rattle.show.specs.declared.Session.{Session}
 use Rattle.show.specs.declared.refusal.Refusal.TheVariants as refusal
 use Rattle.show.specs.Checks.{unless, first}
 use Rattle.state.specs.declared.State.{State}
-use Rattle.run.specs.declared.Underway.{Underway}
-use Rattle.run.specs.declared.Underway.TheVariants.{Nothing, Read}
 use Rattle.run.specs.declared.Run.{Run}
 use Rattle.run.specs.Run.{span_most, playing, state_at, seat_at, onward, PutAt}
 use Rattle.state.specs.Decisions.{state?, true?, false?}
@@ -78,13 +77,13 @@ unfolding false?
 once_tests true = faulty refl
 once_tests false = clear (λ e. true_false (sym e))
 
-free_tests : (u : Underway) → Tests ((i : ℕ) × (u ≡ Read i)) refusal.ReadUnderway (free_check u)
-free_tests Nothing = clear (λ h. nothing_read h.1)
-free_tests (Read i) = faulty (i, refl)
+free_tests : (u : (Option ℕ)) → Tests ((i : ℕ) × (u ≡ Some i)) refusal.ReadUnderway (free_check u)
+free_tests None = clear (λ h. nothing_read h.1)
+free_tests (Some i) = faulty (i, refl)
 
-busy_tests : (u : Underway) → Tests (u ≡ Nothing) refusal.NothingUnderway (busy_check u)
-busy_tests Nothing = faulty refl
-busy_tests (Read i) = clear (λ e. nothing_read (sym e))
+busy_tests : (u : (Option ℕ)) → Tests (u ≡ None) refusal.NothingUnderway (busy_check u)
+busy_tests None = faulty refl
+busy_tests (Some i) = clear (λ e. nothing_read (sym e))
 
 slack_tests : (r : Run) → Tests (slack_time r <ℤ pos 0) refusal.NegativeSlack (slack_check r)
 unfolding slack_check

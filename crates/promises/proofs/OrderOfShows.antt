@@ -1,14 +1,14 @@
 -- The order of refusals of the calls on a show. Assumes nothing.
+use Rattle.std.specs.Prelude.{Ok, Err, Some, None, Result, Option}
 use Prim.Native.Nat.{ℕ, ◌*◌}
 use mathlib.Core.Path.{◌≡◌, refl, sym, ap, subst, ◌∙◌}
 use mathlib.Core.List.{List, [], ◌∷◌}
 use native.Mathlib.Decide.{dec_lt}
 use lib.IntN.{pos}
+use Rattle.show.specs.Outcomes.{Check}
 use Rattle.show.specs.declared.Show.{Show}
 use Rattle.show.specs.declared.refusal.Refusal.{Refusal}
 use Rattle.show.specs.declared.refusal.Refusal.TheVariants as refusal
-use Rattle.show.specs.declared.refusal.Check.{Check}
-use Rattle.show.specs.declared.refusal.Check.TheVariants.{Within, Refused}
 use Rattle.show.specs.Limits.{rate_most, LaidWithin, PlayingWithin, ShowWithin, layout_at, session_at}
 use Rattle.show.specs.Decisions.{between?, counts?, drive?, layout?, session?}
 use Rattle.show.specs.Checks.{unless, first, first_below, limits_check, show_check, layouts_check, sessions_check}
@@ -45,13 +45,13 @@ module _ (p : ℕ → Type 0) (told : (i : ℕ) → Dec (p i)) (why : ℕ → Re
   row i = unless (told i) (why i)
 
   row_tells :
-      (o : Outcome) {rest : Outcome → Type 0} (count : ℕ) → (first_below row count ≡ Within → rest o) →
+      (o : Outcome) {rest : Outcome → Type 0} (count : ℕ) → (first_below row count ≡ Ok tt → rest o) →
       Row n p count rest (after (first_below row count) o)
   row_tells o {rest} count g = from (first_below row count) refl
     where
       from : (k : Check) → first_below row count ≡ k → Row n p count rest (after k o)
-      from Within e = record { present = λ i l b. absurd (b (row_within p told why count e i l)); absent = λ c. g e }
-      from (Refused w) e =
+      from (Ok tt) e = record { present = λ i l b. absurd (b (row_within p told why count e i l)); absent = λ c. g e }
+      from (Err w) e =
           record {
             present = λ i l b.
                 (let r = row_lowest p told why count e in
@@ -61,7 +61,7 @@ module _ (p : ℕ → Type 0) (told : (i : ℕ) → Dec (p i)) (why : ℕ → Re
 
 module _ (s : Show) (o : Outcome) {rest : Outcome → Type 0} where
   -- 5, 6, 7
-  pub limits_tell : (limits_check s ≡ Within → rest o) → LimitsThen s rest (after (limits_check s) o)
+  pub limits_tell : (limits_check s ≡ Ok tt → rest o) → LimitsThen s rest (after (limits_check s) o)
   limits_tell g =
       tells_then _ (first (layouts_check s) (sessions_check s)) (unless_fails (drive? s.drive)) refl
       (λ d.
@@ -72,7 +72,7 @@ module _ (s : Show) (o : Outcome) {rest : Outcome → Type 0} where
       (λ p. g (first_within _ _ d ∙ first_within _ _ l ∙ p)))))
 
   -- 2, 5, 6, 7
-  pub show_tells : (show_check s ≡ Within → rest o) → ShowThen s rest (after (show_check s) o)
+  pub show_tells : (show_check s ≡ Ok tt → rest o) → ShowThen s rest (after (show_check s) o)
   unfolding show_check
   show_tells g =
       tells_then _ (limits_check s) (unless_fails (counts? s.laid s.playing)) refl (λ c. limits_tell (λ l. g (first_within _ _ c ∙ l)))
@@ -84,7 +84,7 @@ module _ (s : Show) where
   Eight = 8 when (Accepted (load_of s) → ⊥) else Grants
 
   -- outside its limits a show is told by its check
-  outside_tells : (w : Refusal) {rest : Outcome → Type 0} → show_check s ≡ Refused w → ShowThen s rest (refused_by w)
+  outside_tells : (w : Refusal) {rest : Outcome → Type 0} → show_check s ≡ Err w → ShowThen s rest (refused_by w)
   outside_tells w {rest} e =
       subst (λ (k : Check). ShowThen s rest (after k (granted []))) e (show_tells s (granted []) (λ h. within_refused (sym h ∙ e)))
 
@@ -107,11 +107,11 @@ module _ (s : Show) where
   try_tells m t (fails h g) = within_tells (granted (pos 0 ∷ [])) h refl
   try_tells m t (untried w e) = outside_tells w e
 
-  why_tells : (r : Reason) → ReasonIs s r → ShowThen s Grants (reason_outcome r)
-  why_tells r (why.none h a) = within_tells (reason_outcome reason.None) h refl
-  why_tells r (why.overload h a) = within_tells (reason_outcome reason.Overload) h refl
-  why_tells r (why.beyond h a) = within_tells (reason_outcome reason.Beyond) h refl
-  why_tells r (why.buffer i size h a) = within_tells (reason_outcome (reason.Buffer i size)) h refl
+  why_tells : (r : (Result (Option Reason) Refusal)) → ReasonIs s r → ShowThen s Grants (reason_outcome r)
+  why_tells r (why.none h a) = within_tells (reason_outcome (Ok None)) h refl
+  why_tells r (why.overload h a) = within_tells (reason_outcome (Ok (Some reason.Overload))) h refl
+  why_tells r (why.beyond h a) = within_tells (reason_outcome (Ok (Some reason.Beyond))) h refl
+  why_tells r (why.buffer i size h a) = within_tells (reason_outcome (Ok (Some (reason.Buffer i size)))) h refl
   why_tells r (why.outside w e) = outside_tells w e
 
   open_tells : (o : Opened) → OpenIs s o → ShowThen s Eight (check_outcome o.check)

@@ -1,4 +1,5 @@
 -- Why it was a no, by citation. Assumes nothing.
+use Rattle.std.specs.Prelude.{Ok, Err, Some, None, Result, Option, true}
 use Prim.Native.Nat.{ℕ, ◌*◌, ◌/◌, ◌≤◌, ◌<◌}
 use mathlib.Core.Path.{◌≡◌, refl, sym, ◌∙◌, ap, ap₂, subst}
 use mathlib.Core.List.{◌∷◌, []}
@@ -9,7 +10,6 @@ use native.Mathlib.Decide.{dec_lt, ℕ_discrete}
 use Rattle.show.specs.declared.Show.{Show}
 use Rattle.show.specs.declared.refusal.Refusal.{Refusal}
 use Rattle.show.specs.declared.refusal.Refusal.TheVariants.{NoSet}
-use Rattle.show.specs.declared.refusal.Check.TheVariants as check
 use Rattle.show.specs.Limits.{ShowWithin, buffer_most}
 use Rattle.show.specs.Checks.{show_check}
 use Rattle.show.proofs.Shows.{within_check}
@@ -22,13 +22,11 @@ use Rattle.theory.proofs.Overload.{overloaded_exactly, whatever_buffers, tenths_
 use Rattle.theory.proofs.Reasons.{wide_accepted, too_small_refuses, size_needed, size_enough, size_within, ask_again}
 use Rattle.theory.proofs.Shows.{show_sound}
 use Rattle.verdict.specs.declared.Decision.{Decision}
-use Rattle.verdict.specs.declared.Verdict.TheVariants as verdict
 use Rattle.verdict.specs.Answers.{DecisionIs, accepted, no_set, outside}
 use Rattle.verdict.proofs.Once.{within_outside}
 use Rattle.verdict.proofs.Decisions.{accepted_exactly, accepted_refused}
 use Rattle.reason.specs.declared.Reason.{Reason}
 use Rattle.reason.specs.declared.Reason.TheVariants as reason
-use Rattle.reason.specs.declared.Loaded.TheVariants.{Tenths}
 use Rattle.reason.specs.Answers.{ReasonIs, none, overload, beyond, buffer}
 use Rattle.reason.specs.Answers as why
 use Rattle.reason.proofs.Answers.{load_told}
@@ -44,44 +42,44 @@ use Rattle.promises.specs.Reasons.{ForEight, WhenTrue, AsDecided, ExactSize, Rea
 
 -- What stands behind each answer.
 module _ (s : Show) where
-  of_none : ReasonIs s reason.None → ShowWithin s × Accepted (load_of s)
+  of_none : ReasonIs s (Ok None) → ShowWithin s × Accepted (load_of s)
   of_none (none w a) = (w, a)
 
-  of_overload : ReasonIs s reason.Overload → ShowWithin s × NeverKeepsUp (load_of s)
+  of_overload : ReasonIs s (Ok (Some reason.Overload)) → ShowWithin s × NeverKeepsUp (load_of s)
   of_overload (overload w a) = (w, a)
 
-  of_beyond : ReasonIs s reason.Beyond → ShowWithin s × Beyond (load_of s) buffer_most
+  of_beyond : ReasonIs s (Ok (Some reason.Beyond)) → ShowWithin s × Beyond (load_of s) buffer_most
   of_beyond (beyond w a) = (w, a)
 
-  of_buffer : (i size : ℕ) → ReasonIs s (reason.Buffer i size) → ShowWithin s × TooSmall (load_of s) buffer_most i size
+  of_buffer : (i size : ℕ) → ReasonIs s (Ok (Some (reason.Buffer i size))) → ShowWithin s × TooSmall (load_of s) buffer_most i size
   of_buffer i size (buffer j more w a) = (w, a)
 
-  of_refused : (w : Refusal) → ReasonIs s (reason.Refused w) → show_check s ≡ check.Refused w
+  of_refused : (w : Refusal) → ReasonIs s (Err w) → show_check s ≡ Err w
   of_refused w (why.outside v out) = out
 
-  one_of : (r : Reason) → ReasonIs s r → ShowWithin s → (r ≡ reason.None) ⊎ ForEight r
+  one_of : (r : (Result (Option Reason) Refusal)) → ReasonIs s r → ShowWithin s → (r ≡ Ok None) ⊎ ForEight r
   one_of r (none w a) v = inl refl
   one_of r (overload w a) v = inr (inl refl)
   one_of r (beyond w a) v = inr (inr (inl refl))
   one_of r (buffer i size w a) v = inr (inr (inr (i, (size, refl))))
   one_of r (why.outside w e) v = within_outside s w v e
 
-  when_true : (r : Reason) → ReasonIs s r → WhenTrue s r
+  when_true : (r : (Result (Option Reason) Refusal)) → ReasonIs s r → WhenTrue s r
   when_true r h =
       record {
-        none = (λ e. of_none (subst (ReasonIs s) e h), λ p. reason_once s r reason.None h (none p.0 p.1));
-        overload = (λ e. of_overload (subst (ReasonIs s) e h), λ p. reason_once s r reason.Overload h (overload p.0 p.1));
-        beyond = (λ e. of_beyond (subst (ReasonIs s) e h), λ p. reason_once s r reason.Beyond h (beyond p.0 p.1));
+        none = (λ e. of_none (subst (ReasonIs s) e h), λ p. reason_once s r (Ok None) h (none p.0 p.1));
+        overload = (λ e. of_overload (subst (ReasonIs s) e h), λ p. reason_once s r (Ok (Some reason.Overload)) h (overload p.0 p.1));
+        beyond = (λ e. of_beyond (subst (ReasonIs s) e h), λ p. reason_once s r (Ok (Some reason.Beyond)) h (beyond p.0 p.1));
         buffer = λ i size.
-            (λ e. of_buffer i size (subst (ReasonIs s) e h), λ p. reason_once s r (reason.Buffer i size) h (buffer i size p.0 p.1));
-        refused = λ w. (λ e. of_refused w (subst (ReasonIs s) e h), λ e. reason_once s r (reason.Refused w) h (why.outside w e));
+            (λ e. of_buffer i size (subst (ReasonIs s) e h), λ p. reason_once s r (Ok (Some (reason.Buffer i size))) h (buffer i size p.0 p.1));
+        refused = λ w. (λ e. of_refused w (subst (ReasonIs s) e h), λ e. reason_once s r (Err w) h (why.outside w e));
         one = one_of r h;
       }
 
 -- ---- as decided
 
 -- The limits do not say 8.
-not_eight : {A : Type 0} (s : Show) → show_check s ≡ check.Refused NoSet → A
+not_eight : {A : Type 0} (s : Show) → show_check s ≡ Err NoSet → A
 not_eight s e = by (only.check s NoSet e)
   where
     by : {A : Type 0} → OneOf (2 ∷ 5 ∷ 6 ∷ 7 ∷ []) 8 → A
@@ -93,7 +91,7 @@ not_eight s e = by (only.check s NoSet e)
 
 module _ (s : Show) where
   -- A reason for an 8 is a reason within the limits, and for a no.
-  eight_within : (r : Reason) → ReasonIs s r → ForEight r → ShowWithin s × (Accepted (load_of s) → ⊥)
+  eight_within : (r : (Result (Option Reason) Refusal)) → ReasonIs s r → ForEight r → ShowWithin s × (Accepted (load_of s) → ⊥)
   eight_within r h (inl e) =
       let x = of_overload s (subst (ReasonIs s) e h) in (x.0, λ a. x.1 a.0 a.1.counted a.1.augmenting)
   eight_within r h (inr (inl e)) =
@@ -104,27 +102,27 @@ module _ (s : Show) where
       (x.0, too_small_refuses (load_of s) buffer_most (limit s x.0) y.0 y.1.0 x.1)
 
   -- Within the limits and not accepted is an 8.
-  said_eight : (d : Decision) → DecisionIs s d → ShowWithin s → (Accepted (load_of s) → ⊥) → d.verdict ≡ verdict.Refused NoSet
+  said_eight : (d : Decision) → DecisionIs s d → ShowWithin s → (Accepted (load_of s) → ⊥) → d.verdict ≡ Err NoSet
   said_eight d (accepted m w h) v no_one = absurd (no_one (m, h.good))
   said_eight d (no_set w h) v no_one = refl
   said_eight d (outside w e) v no_one = within_outside s w v e
 
-  module _ (r : Reason) (h : ReasonIs s r) where
-    yes_both : (d : Decision) → DecisionIs s d → (r ≡ reason.None) ↔ (d.verdict ≡ verdict.Accepted)
+  module _ (r : (Result (Option Reason) Refusal)) (h : ReasonIs s r) where
+    yes_both : (d : Decision) → DecisionIs s d → (r ≡ Ok None) ↔ (d.verdict ≡ Ok tt)
     yes_both d g =
         (λ e. (accepted_exactly s d g).1 ((when_true s r h).none.0 e), λ e. (when_true s r h).none.1 ((accepted_exactly s d g).0 e))
 
-    eight_back : (d : Decision) → DecisionIs s d → d.verdict ≡ verdict.Refused NoSet → ForEight r
+    eight_back : (d : Decision) → DecisionIs s d → d.verdict ≡ Err NoSet → ForEight r
     eight_back d (accepted m w g) e = accepted_refused (sym e)
     eight_back d (no_set w g) e = elim (one_of s r h w) [ inl n ↦ absurd (g (of_none s (subst (ReasonIs s) n h)).1) | inr f ↦ f ]
-    eight_back d (outside w out) e = not_eight s (out ∙ ap check.Refused (same_verdict e))
+    eight_back d (outside w out) e = not_eight s (out ∙ ap Err (same_verdict e))
 
-    limits_both : (d : Decision) → DecisionIs s d → (w : Refusal) → r ≡ reason.Refused w → d.verdict ≡ verdict.Refused w
+    limits_both : (d : Decision) → DecisionIs s d → (w : Refusal) → r ≡ Err w → d.verdict ≡ Err w
     limits_both d (accepted m v g) w e = within_outside s w v (((when_true s r h).refused w).0 e)
     limits_both d (no_set v g) w e = within_outside s w v (((when_true s r h).refused w).0 e)
-    limits_both d (outside v out) w e = ap verdict.Refused (same_refusal (sym out ∙ ((when_true s r h).refused w).0 e))
+    limits_both d (outside v out) w e = ap Err (same_refusal (sym out ∙ ((when_true s r h).refused w).0 e))
 
-  as_decided : (r : Reason) (d : Decision) → ReasonIs s r → DecisionIs s d → AsDecided r d
+  as_decided : (r : (Result (Option Reason) Refusal)) (d : Decision) → ReasonIs s r → DecisionIs s d → AsDecided r d
   as_decided r d h g =
       record {
         yes = yes_both r h d g;
@@ -134,7 +132,7 @@ module _ (s : Show) where
 
 -- ---- the size
 
-module _ (s : Show) (i size : ℕ) (h : ReasonIs s (reason.Buffer i size)) where
+module _ (s : Show) (i size : ℕ) (h : ReasonIs s (Ok (Some (reason.Buffer i size)))) where
   exact_size : ExactSize s i size
   exact_size =
       let x = of_buffer s i size h in
@@ -187,7 +185,7 @@ reasons =
       any_buffers = λ s. whatever_buffers (load_of s);
       even_hundred = sum_exactly;
       exact = exact_size;
-      load = λ s w. load_told s (within_check s w) ∙ ap Tenths (tenths_line s);
+      load = λ s w. load_told s (within_check s w) ∙ ap Ok (tenths_line s);
       reads = reads;
       accepted_reads = λ s w a. below s w a (dec_lt (tenths (load_of s)) 1000);
       unused = λ s t a. alike_reason s t a;

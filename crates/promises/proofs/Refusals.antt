@@ -1,13 +1,13 @@
 -- What is left after a refusal. Assumes nothing.
+use Rattle.std.specs.Prelude.{Ok, Err}
 use Prim.Native.Nat.{ℕ, ◌-◌}
 use mathlib.Core.Path.{◌≡◌, refl, sym, ap, ◌∙◌}
 use mathlib.Core.List.{List}
 use native.Mathlib.Omega.{arith}
 use lib.ListN.{length, take, drop}
+use Rattle.show.specs.Outcomes.{Check}
 use Rattle.show.specs.declared.Show.{Show}
 use Rattle.show.specs.declared.refusal.Refusal.{Refusal}
-use Rattle.show.specs.declared.refusal.Check.{Check}
-use Rattle.show.specs.declared.refusal.Check.TheVariants.{Within, Refused}
 use Rattle.show.specs.Limits.{no_show}
 use Rattle.show.proofs.Checks.{within_refused}
 use Rattle.showfile.specs.declared.Reading.{Reading}
@@ -23,8 +23,6 @@ use Rattle.report.specs.Answers.{TextIs, text_most}
 use Rattle.explain.specs.Answers.{SaidIs, said_most}
 use Rattle.verdict.specs.declared.Decision.{Decision}
 use Rattle.trial.specs.declared.Trial.{Trial}
-use Rattle.verdict.specs.declared.Verdict.TheVariants as verdict
-use Rattle.trial.specs.declared.Answer.TheVariants as answer
 use Rattle.verdict.specs.Answers.{DecisionIs, accepted, no_set, outside, refused_for}
 use Rattle.trial.specs.Answers.{TrialIs, holds, fails, untried, untried_for}
 use Rattle.verdict.proofs.Decisions.{accepted_refused}
@@ -37,17 +35,17 @@ use Rattle.promises.proofs.Says.{same_verdict, same_answer, holds_refused, fails
 
 -- ---- buffers
 
-over_refused : (k : Check) (file b : List ℕ) (w : Refusal) → k ≡ Refused w → written_over k file b ≡ b
-over_refused Within file b w e = within_refused e
-over_refused (Refused v) file b w e = refl
+over_refused : (k : Check) (file b : List ℕ) (w : Refusal) → k ≡ Err w → written_over k file b ≡ b
+over_refused (Ok tt) file b w e = within_refused e
+over_refused (Err v) file b w e = refl
 
 pub reading_check : (k : Check) (x : Show) (n : ℕ) → (reading k x n).check ≡ k
-reading_check Within x n = refl
-reading_check (Refused v) x n = refl
+reading_check (Ok tt) x n = refl
+reading_check (Err v) x n = refl
 
 told_back :
     (is : List ℕ → Type 0) (most : ℕ) (b : List ℕ) (r : Written) (x : List ℕ) → ToldIs is most b r x → (w : Refusal) →
-    r.check ≡ Refused w → x ≡ b
+    r.check ≡ Err w → x ≡ b
 told_back is most b r x (told t h g) w e = within_refused e
 told_back is most b r x (short h) w e = refl
 
@@ -71,38 +69,38 @@ buffers =
 
 -- ---- answers
 
-reading_empty : (k : Check) (x : Show) (n : ℕ) (w : Refusal) → (reading k x n).check ≡ Refused w → reading k x n ≡ reading (Refused w) no_show 0
-reading_empty Within x n w e = within_refused e
-reading_empty (Refused v) x n w e = ap (λ (k : Check). record { check = k; show = no_show; note = 0 }) e
+reading_empty : (k : Check) (x : Show) (n : ℕ) (w : Refusal) → (reading k x n).check ≡ Err w → reading k x n ≡ reading (Err w) no_show 0
+reading_empty (Ok tt) x n w e = within_refused e
+reading_empty (Err v) x n w e = ap (λ (k : Check). record { check = k; show = no_show; note = 0 }) e
 
-read_empty : (f : List ℕ) (w : Refusal) → (read_of f).check ≡ Refused w → read_of f ≡ reading (Refused w) no_show 0
+read_empty : (f : List ℕ) (w : Refusal) → (read_of f).check ≡ Err w → read_of f ≡ reading (Err w) no_show 0
 unfolding read_of read_at
 read_empty f w e =
     let at = length f - 20 in
     let t = trailer_of (drop at f) in
     reading_empty (read_check f at t) (shown_at f at t) (note_length at t) w e
 
-written_empty : (k : Check) (n : ℕ) (w : Refusal) → (written k n).check ≡ Refused w → (written k n).len ≡ 0
-written_empty Within n w e = within_refused e
-written_empty (Refused v) n w e = refl
+written_empty : (k : Check) (n : ℕ) (w : Refusal) → (written k n).check ≡ Err w → (written k n).len ≡ 0
+written_empty (Ok tt) n w e = within_refused e
+written_empty (Err v) n w e = refl
 
 told_empty :
     (is : List ℕ → Type 0) (most : ℕ) (b : List ℕ) (r : Written) (x : List ℕ) → ToldIs is most b r x → (w : Refusal) →
-    r.check ≡ Refused w → r.len ≡ 0
+    r.check ≡ Err w → r.len ≡ 0
 told_empty is most b r x (told t h g) w e = within_refused e
 told_empty is most b r x (short h) w e = refl
 
-decide_empty : (s : Show) (d : Decision) → DecisionIs s d → (w : Refusal) → d.verdict ≡ verdict.Refused w → d ≡ refused_for w
+decide_empty : (s : Show) (d : Decision) → DecisionIs s d → (w : Refusal) → d.verdict ≡ Err w → d ≡ refused_for w
 decide_empty s d (accepted m h g) w e = accepted_refused (sym e)
 decide_empty s d (no_set h none) w e = ap refused_for (same_verdict e)
 decide_empty s d (outside v out) w e = ap refused_for (same_verdict e)
 
-tried_empty : (s : Show) (m : List ℕ) (t : Trial) → TrialIs s m t → (w : Refusal) → t.answer ≡ answer.Refused w → t ≡ untried_for w
+tried_empty : (s : Show) (m : List ℕ) (t : Trial) → TrialIs s m t → (w : Refusal) → t.answer ≡ Err w → t ≡ untried_for w
 tried_empty s m t (holds h g) w e = holds_refused e
 tried_empty s m t (fails h g) w e = fails_refused e
 tried_empty s m t (untried v out) w e = ap untried_for (same_answer e)
 
-open_empty : (s : Show) (o : Opened) → OpenIs s o → (w : Refusal) → o.check ≡ Refused w → o ≡ record { check = Refused w; run = no_run }
+open_empty : (s : Show) (o : Opened) → OpenIs s o → (w : Refusal) → o.check ≡ Err w → o ≡ record { check = Err w; run = no_run }
 open_empty s o h w e =
     let d = h.decision in
     h.answers ∙ ap (opened_by s d.counts) (opened_refused s d.counts d.verdict w (sym (ap (λ (x : Opened). x.check) h.answers) ∙ e))

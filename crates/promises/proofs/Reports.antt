@@ -1,4 +1,5 @@
 -- What the calculator says, by citation; the worked texts are computed. Assumes nothing.
+use Rattle.std.specs.Prelude.{Ok, Err}
 use Prim.Native.Nat.{ℕ, ◌≤◌}
 use mathlib.Core.Path.{◌≡◌, refl, sym}
 use mathlib.Core.List.{List, []}
@@ -8,7 +9,6 @@ use lib.ListN.{length, replicate}
 use Rattle.show.specs.declared.Show.{Show}
 use Rattle.show.specs.declared.refusal.Refusal.{Refusal}
 use Rattle.show.specs.declared.refusal.Refusal.TheVariants.{NoSet}
-use Rattle.show.specs.declared.refusal.Check.TheVariants.{Within}
 use Rattle.show.specs.Limits.{ShowWithin}
 use Rattle.show.specs.Decisions.{counts?, drive?, layout?, session?}
 use Rattle.show.specs.Checks.{show_check, first_below}
@@ -25,7 +25,6 @@ use Rattle.showfile_copy.proofs.Trip.{file_read}
 use Rattle.theory.specs.Sum.{sum_to}
 use Rattle.theory.specs.Shows.{load_of}
 use Rattle.verdict.specs.declared.Decision.{Decision}
-use Rattle.verdict.specs.declared.Verdict.TheVariants as verdict
 use Rattle.verdict.specs.Answers.{DecisionIs, set_of}
 use Rattle.verdict.proofs.Unused.{alike_decision}
 use Rattle.text.specs.Decimal.{digits, decimal}
@@ -46,7 +45,7 @@ use Rattle.promises.proofs.Trips.{trips}
 module _ (x : Show) (note : List ℕ) (shaped : Shaped x) (w : ShowWithin x) (h : length note ≤ note_most) (d : Decision) (is : DecisionIs x d) where
   -- what is read of it
   abbrev got : Reading
-  got = reading Within (zeroed x) (length note)
+  got = reading (Ok tt) (zeroed x) (length note)
 
   as_read : got ≡ read_of (file_of x note)
   as_read = sym (file_read x note shaped.layouts shaped.sessions w h)
@@ -54,10 +53,10 @@ module _ (x : Show) (note : List ℕ) (shaped : Shaped x) (w : ShowWithin x) (h 
   again : DecisionIs (zeroed x) d
   again = alike_decision x (zeroed x) (trips.read_again x note shaped w h).alike d is
 
-  yes_told : d.verdict ≡ verdict.Accepted → TextIs (file_of x note) (accepted_text (load_of (zeroed x)) (set_of d.counts))
+  yes_told : d.verdict ≡ Ok tt → TextIs (file_of x note) (accepted_text (load_of (zeroed x)) (set_of d.counts))
   yes_told e = (told_yes (file_of x note) got as_read refl d again e).told
 
-  no_told : (v : Refusal) → d.verdict ≡ verdict.Refused v → TextIs (file_of x note) (refused_text v)
+  no_told : (v : Refusal) → d.verdict ≡ Err v → TextIs (file_of x note) (refused_text v)
   no_told v e = told_no (file_of x note) got as_read refl d v again e
 
 pub reports : Reports

@@ -1,5 +1,6 @@
 -- Wrong answers that the contracts rule out, of shows, costs, counts, verdicts and reasons: each is computed, or cites the one answer that
 -- there is. Assumes nothing.
+use Rattle.std.specs.Prelude.{Ok, Err, Some, None, Result, Option, Bool, true, false}
 use Prim.Native.Nat.{ℕ, ◌+◌, ◌*◌, ◌≤◌}
 use mathlib.Core.Path.{refl, sym, ap, ◌∙◌}
 use mathlib.Core.List.{[], ◌∷◌}
@@ -8,8 +9,9 @@ use mathlib.Core.Logic.{inl, inr}
 use native.Mathlib.Omega.{arith}
 use native.Mathlib.Decide.{dec_lt, dec_le, ℕ_discrete}
 use lib.ListN.{replicate}
+use Rattle.show.specs.Outcomes.{Check}
+use Rattle.show.specs.declared.refusal.Refusal.{Refusal}
 use Rattle.show.specs.declared.refusal.Refusal.TheVariants.{NoSet}
-use Rattle.show.specs.declared.refusal.Check.{Check}
 use Rattle.show.specs.declared.refusal.Told.{Told}
 use Rattle.show.specs.Refusals.{number_of}
 use Rattle.show.specs.Outcomes.{check_outcome}
@@ -19,11 +21,7 @@ use Rattle.show.specs.Lists.{listed, padded}
 use Rattle.show.proofs.Shows.{check_within}
 use Rattle.cost.specs.Bound.{worst_time, edges, ceil}
 use Rattle.cost.specs.Costs.{cost_of}
-use Rattle.cost.specs.declared.worst.Worst.{Worst}
-use Rattle.cost.specs.declared.worst.Worst.TheVariants as worst
 use Rattle.cost.specs.WorstTimes.{limited?, takes_of, worst_of}
-use Rattle.count.specs.declared.Asked.{Asked}
-use Rattle.count.specs.declared.Asked.TheVariants as asked
 use Rattle.count.specs.Answers.{block?, need_of}
 use Rattle.theory.specs.Rounds.{need}
 use Rattle.theory.specs.Sum.{sum_to}
@@ -31,18 +29,12 @@ use Rattle.theory.specs.Reasons.{tenths}
 use Rattle.theory.specs.Shows.{load_of}
 use Rattle.verdict.specs.declared.Decision.{Decision}
 use Rattle.trial.specs.declared.Trial.{Trial}
-use Rattle.verdict.specs.declared.Verdict.{Verdict}
-use Rattle.verdict.specs.declared.Verdict.TheVariants as verdict
-use Rattle.trial.specs.declared.Answer.{Answer}
-use Rattle.trial.specs.declared.Answer.TheVariants as answer
 use Rattle.verdict.specs.Answers.{set_of}
 use Rattle.trial.specs.Answers.{TrialIs, holds, timed_as}
 use Rattle.verdict.proofs.Once.{decision_once}
 use Rattle.trial.proofs.Once.{trial_once}
 use Rattle.reason.specs.declared.Reason.{Reason}
 use Rattle.reason.specs.declared.Reason.TheVariants as reason
-use Rattle.reason.specs.declared.Loaded.{Loaded}
-use Rattle.reason.specs.declared.Loaded.TheVariants as loaded
 use Rattle.reason.specs.Answers.{ReasonIs, loaded_of}
 use Rattle.reason.proofs.Once.{reason_once}
 use Rattle.promises.specs.Numbers.{X, clip, buffered, show_of, places}
@@ -75,21 +67,21 @@ of_show =
     }
 
 -- the time or the count of an answer, or the number of its refusal
-abbrev taking : Worst → ℕ
-taking (worst.Takes t) = t
-taking (worst.Refused w) = 0
+abbrev taking : Result ℕ Refusal → ℕ
+taking (Ok t) = t
+taking (Err w) = 0
 
-abbrev refusing : Worst → ℕ
-refusing (worst.Takes t) = 0
-refusing (worst.Refused w) = number_of w
+abbrev refusing : Result ℕ Refusal → ℕ
+refusing (Ok t) = 0
+refusing (Err w) = number_of w
 
-abbrev counting : Asked → ℕ
-counting (asked.Count m) = m
-counting (asked.Refused w) = 0
+abbrev counting : Result ℕ Refusal → ℕ
+counting (Ok m) = m
+counting (Err w) = 0
 
-abbrev denying : Asked → ℕ
-denying (asked.Count m) = 0
-denying (asked.Refused w) = number_of w
+abbrev denying : Result ℕ Refusal → ℕ
+denying (Ok m) = 0
+denying (Err w) = number_of w
 
 of_cost : OfCost
 unfolding takes_of limited? worst_of show_check first_below counts? drive? layout? session? between? dec_lt dec_le ℕ_discrete Dec.and cost_of worst_time edges ceil
@@ -116,19 +108,19 @@ of_count =
     }
 
 -- the number of an answer, where it is one of an enum
-abbrev answered : Answer → ℕ
-answered answer.Holds = 1
-answered answer.Fails = 2
-answered (answer.Refused w) = 3
+abbrev answered : Result Bool Refusal → ℕ
+answered (Ok true) = 1
+answered (Ok false) = 2
+answered (Err w) = 3
 
-abbrev accepting : Verdict → ℕ
-accepting verdict.Accepted = 1
-accepting (verdict.Refused w) = 2
+abbrev accepting : Check → ℕ
+accepting (Ok tt) = 1
+accepting (Err w) = 2
 
 -- p3's counts hold.
 three_hold :
     TrialIs (show_of X (replicate 3 clip)) (places (replicate 3 2))
-    (timed_as answer.Holds (load_of (show_of X (replicate 3 clip))) (set_of (places (replicate 3 2))))
+    (timed_as (Ok true) (load_of (show_of X (replicate 3 clip))) (set_of (places (replicate 3 2))))
 unfolding show_check first_below counts? drive? layout? session? dec_lt listed padded
 three_hold =
     holds (check_within (show_of X (replicate 3 clip)) refl) (verdicts.told (show_of X (replicate 3 clip)) _ table.p3.twice refl).good
@@ -151,19 +143,19 @@ of_verdict =
     }
 
 -- which reason, and its size
-abbrev kind : Reason → ℕ
-kind reason.None = 0
-kind reason.Overload = 1
-kind reason.Beyond = 2
-kind (reason.Buffer i size) = 3 + size
-kind (reason.Refused w) = 3
+abbrev kind : Result (Option Reason) Refusal → ℕ
+kind (Ok None) = 0
+kind (Ok (Some reason.Overload)) = 1
+kind (Ok (Some reason.Beyond)) = 2
+kind (Ok (Some (reason.Buffer i size))) = 3 + size
+kind (Err w) = 3
 
-abbrev load : Loaded → ℕ
-load (loaded.Tenths n) = n
-load (loaded.Refused w) = 0
+abbrev load : Result ℕ Refusal → ℕ
+load (Ok n) = n
+load (Err w) = 0
 
 -- Of two whose buffers are a byte short, the first is too small for a count of 1.
-second : ReasonIs (show_of X (replicate 2 (buffered 102400))) (reason.Buffer 1 102401) → ⊥
+second : ReasonIs (show_of X (replicate 2 (buffered 102400))) (Ok (Some (reason.Buffer 1 102401))) → ⊥
 second h =
     let t = (((reasons.when_true (show_of X (replicate 2 (buffered 102400))) _ h).buffer 1 102401).0 refl).1 in
     let some : 1 ≤ t.counts 0 = t.smallest.good.counted 0 (omega arith) in

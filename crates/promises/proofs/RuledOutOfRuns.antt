@@ -1,4 +1,5 @@
 -- Wrong answers that the contracts rule out, of the calls on a run: each is computed on a run of specs/RuledOutOfRuns, or cites a law. Assumes nothing.
+use Rattle.std.specs.Prelude.{Ok, Err, Some, None, Result, Option, ℤ}
 use Prim.Native.Nat.{ℕ, ◌+◌, ◌*◌}
 use mathlib.Core.Path.{◌≡◌, refl, sym, ap, ◌∙◌}
 use mathlib.Core.Bool.{true, false}
@@ -9,6 +10,7 @@ use native.Mathlib.Decide.{dec_lt, dec_le, ℕ_discrete}
 use lib.Dec.{ltb→lt}
 use lib.IntN.{pos, negsuc}
 use lib.ListN.{get_or, replicate}
+use Rattle.show.specs.declared.refusal.Refusal.{Refusal}
 use Rattle.show.specs.Limits.{no_session}
 use Rattle.show.specs.Refusals.{number_of}
 use Rattle.show.specs.Outcomes.{check_outcome}
@@ -20,8 +22,6 @@ use Rattle.theory.specs.Sum.{sum_to}
 use Rattle.theory.specs.Floor.{floor_z}
 use Rattle.theory.specs.Slack.{less?, least_to, slack_by, same?, before?, rank}
 use Rattle.state.specs.declared.State.{State}
-use Rattle.run.specs.declared.Underway.{Underway}
-use Rattle.run.specs.declared.Underway.TheVariants as underway
 use Rattle.run.specs.declared.Run.{Run}
 use Rattle.run.specs.declared.Opened.{Opened}
 use Rattle.run.specs.declared.Moved.{Moved}
@@ -41,8 +41,6 @@ use Rattle.scheduler.specs.declared.Choice.TheVariants as choice
 use Rattle.scheduler.specs.declared.Chosen.{Chosen}
 use Rattle.scheduler.specs.Answers.{arrived, arrived_past, choose_of}
 use Rattle.scheduler.proofs.Calls.{choose_next}
-use Rattle.workahead.specs.declared.Spare.{Spare}
-use Rattle.workahead.specs.declared.Spare.TheVariants as spare
 use Rattle.order.specs.Order.{named, place_in}
 use Rattle.workahead.specs.Answers.{spare_outcome}
 use Rattle.order.proofs.Orders.{ordered_few, placed_few}
@@ -62,8 +60,8 @@ use Rattle.promises.proofs.SpareTime.{spare_time}
 -- ---- the runs are sound
 
 record Sounds : Type 0 where
-  last : SoundRun (eighth_at 2 1 (underway.Read 2))
-  begun : SoundRun (eighth_at 0 1 underway.Nothing)
+  last : SoundRun (eighth_at 2 1 (Some 2))
+  begun : SoundRun (eighth_at 0 1 None)
   full : SoundRun crowded
   most : SoundRun worn
   even : SoundRun level
@@ -73,8 +71,8 @@ unfolding told sound? show? good? below? state? named? some? cycle? false? true?
     layout? session? between? sum_to cost_of worst_time edges ceil listed dec_le dec_lt ℕ_discrete Dec.and
 sounds =
     record {
-      last = from_told (sound? (eighth_at 2 1 (underway.Read 2))) tt;
-      begun = from_told (sound? (eighth_at 0 1 underway.Nothing)) tt;
+      last = from_told (sound? (eighth_at 2 1 (Some 2))) tt;
+      begun = from_told (sound? (eighth_at 0 1 None)) tt;
       full = from_told (sound? crowded) tt;
       most = from_told (sound? worn) tt;
       even = from_told (sound? level) tt;
@@ -107,7 +105,7 @@ pub of_run_test : OfRunTest
 of_run_test =
     record {
       nothing_left_is_sound = λ e.
-          (let h = ((tested_sound (eighth_at 0 0 underway.Nothing) _ refl e).cycle.turning (omega arith)).left.low in let f : ⊥ = omega arith in f);
+          (let h = ((tested_sound (eighth_at 0 0 None) _ refl e).cycle.turning (omega arith)).left.low in let f : ⊥ = omega arith in f);
     }
 
 -- ---- a player
@@ -136,7 +134,7 @@ of_playback =
       damaged_granted = λ e.
           apart outcome_number
           (sym
-          ((order.runs.pass (eighth_at 0 0 underway.Nothing) 0).present
+          ((order.runs.pass (eighth_at 0 0 None) 0).present
           (λ s. let h = (s.cycle.turning (omega arith)).left.low in let f : ⊥ = omega arith in f))
           ∙ ap check_outcome e)
           tt;
@@ -149,7 +147,7 @@ of_playback =
       does_not_wrap = λ e.
           other
           (ap (λ (m : Moved). m.run.place)
-          (finish_granted (eighth_at 2 1 (underway.Read 2)) 0 sounds.last (omega arith) 2 _ _ refl refl refl)
+          (finish_granted (eighth_at 2 1 (Some 2)) 0 sounds.last (omega arith) 2 _ _ refl refl refl)
           ∙ e)
           tt;
       refused_lets_time_pass = λ e.
@@ -168,9 +166,9 @@ choosing (choice.Read i) = 1 + i
 choosing (choice.Refused w) = 100 + number_of w
 
 -- one more than the session that is read, 0 for none
-abbrev reading : Underway → ℕ
-reading underway.Nothing = 0
-reading (underway.Read i) = 1 + i
+abbrev reading : Option ℕ → ℕ
+reading None = 0
+reading (Some i) = 1 + i
 
 pub of_scheduler : OfScheduler
 unfolding arrived skipped first_from begun left_in room? put? dec_le dec_lt listed
@@ -181,7 +179,7 @@ of_scheduler =
       whole_without_a_skip = λ e.
           other
           (ap (λ (c : Chosen). c.run.left)
-          (choose_next (eighth_at 0 1 underway.Nothing) sounds.begun refl (λ z. let f : ⊥ = omega arith in f) _ (ltb→lt _ _ tt) refl)
+          (choose_next (eighth_at 0 1 None) sounds.begun refl (λ z. let f : ⊥ = omega arith in f) _ (ltb→lt _ _ tt) refl)
           ∙ e)
           tt;
       advanced_at_the_limit = λ e.
@@ -198,10 +196,10 @@ of_scheduler =
 -- ---- spare time
 
 -- the size of a time, and that it is below zero
-abbrev sparing : Spare → ℕ
-sparing (spare.Time (pos n)) = 2 * n
-sparing (spare.Time (negsuc n)) = 2 * n + 1
-sparing (spare.Refused w) = 0
+abbrev sparing : Result ℤ Refusal → ℕ
+sparing (Ok (pos n)) = 2 * n
+sparing (Ok (negsuc n)) = 2 * n + 1
+sparing (Err w) = 0
 
 pub of_standing : OfStanding
 unfolding floor_z named before? rank less? same? ℕ_discrete sum_to listed padded dec_le dec_lt
@@ -212,7 +210,7 @@ of_standing =
       no_rate_is_damage = λ e. apart outcome_number (sym ((order.runs.ahead_of no_session (loaded 1)).present refl) ∙ ap spare_outcome e) tt;
       below_counted_from_minus_one = λ e. other e tt;
       damage_unseen = λ e.
-          (let h = ((stood_sound (eighth_at 0 0 underway.Nothing) _ refl e).cycle.turning (omega arith)).left.low in let f : ⊥ = omega arith in f);
+          (let h = ((stood_sound (eighth_at 0 0 None) _ refl e).cycle.turning (omega arith)).left.low in let f : ⊥ = omega arith in f);
       order_unseen = λ e. apart sparing (sym table.p8.given ∙ e) tt;
       place_shared = λ z e.
           apart outcome_number

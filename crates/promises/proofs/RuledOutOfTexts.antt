@@ -1,5 +1,6 @@
 -- Wrong answers that the contracts rule out, of files and texts and of the calls for C: each is computed, or cites the one answer that there is, or the
 -- order of the refusals. Assumes nothing.
+use Rattle.std.specs.Prelude.{Ok, Some, None, Option}
 use Prim.Native.Nat.{ℕ, ◌+◌}
 use mathlib.Core.Path.{◌≡◌, refl, sym, ap, ◌∙◌}
 use mathlib.Core.List.{List, [], ◌∷◌}
@@ -23,8 +24,6 @@ use Rattle.showfile.specs.Answers.{read_check, read_at, read_of}
 use Rattle.showfile.proofs.Readable.{check_readable}
 use Rattle.showfile_write.specs.Answers.{write_check, written_of, buffer_of}
 use Rattle.showfile_copy.specs.Trips.{reread_of, copy_check, copied_of, copy_of}
-use Rattle.parse_numbers.specs.declared.Number.{Number}
-use Rattle.parse_numbers.specs.declared.Number.TheVariants.{Is, Not}
 use Rattle.parse.specs.Parts.{find_of, parts_of, rest_of, part_of}
 use Rattle.parse_numbers.specs.Numbers.{counted_of, longer_by, spelled, fitting, decimal_of}
 use Rattle.parse_numbers.specs.Bytes.{joined, pairs_of, bytes_of, put_of}
@@ -101,9 +100,9 @@ of_showfile_write =
 -- ---- texts
 
 -- one more than a number, 0 for none
-abbrev spelling : Number → ℕ
-spelling (Is n) = 1 + n
-spelling Not = 0
+abbrev spelling : Option ℕ → ℕ
+spelling (Some n) = 1 + n
+spelling None = 0
 
 abbrev front : List ℕ → ℕ
 front l = get_or l 0 0
@@ -176,5 +175,5 @@ of_chikchiro =
       place_times_sixteen = λ f b r x h k w e.
           other (sym (decided_once f b r _ x _ h (answers.decided (refused_for (refusal.SessionLimits 1)) k (answers.unread _ w))).0 ∙ e) tt;
       overload_as_beyond = λ f b r x h l o e.
-          other (sym (ap front (reasoned_once f b r _ x _ h (answers.reasoned reason.Overload l o)).1) ∙ e) tt;
+          other (sym (ap front (reasoned_once f b r _ x _ h (answers.reasoned (Ok (Some reason.Overload)) l o)).1) ∙ e) tt;
     }

@@ -1,4 +1,5 @@
 -- The laws of a run, by citation. Assumes nothing.
+use Rattle.std.specs.Prelude.{Ok, Err}
 use Prim.Native.Nat.{ℕ, ◌≤◌, ◌<◌}
 use mathlib.Core.Path.{◌≡◌, refl, sym, ap, subst, ◌∙◌}
 use mathlib.Core.Bool.{true, false}
@@ -7,9 +8,8 @@ use native.Mathlib.Omega.{arith}
 use lib.IntN.{ℤ}
 use lib.ListN.{length, get_or}
 use lib.Signed.{◌≤ℤ◌}
+use Rattle.show.specs.Outcomes.{Check}
 use Rattle.show.specs.declared.Show.{Show}
-use Rattle.show.specs.declared.refusal.Check.{Check}
-use Rattle.show.specs.declared.refusal.Check.TheVariants.{Within, Refused}
 use Rattle.theory.specs.Counts.{Smallest}
 use Rattle.theory.specs.Shows.{load_of}
 use Rattle.theory.specs.Slack.{slack_by}
@@ -65,8 +65,8 @@ start_leaves : (r : Run) → Leaves r (start_of r).run
 start_leaves r = from (start_of r).check refl
   where
     from : (k : Check) → (start_of r).check ≡ k → Leaves r (start_of r).run
-    from Within e = started (start_fresh r e) (start_granted r e)
-    from (Refused w) e = kept (subst (Kept r) (sym (start_refused r w e)) (same_kept r))
+    from (Ok tt) e = started (start_fresh r e) (start_granted r e)
+    from (Err w) e = kept (subst (Kept r) (sym (start_refused r w e)) (same_kept r))
 
 after_leaves : (r q : Run) → Sized r → After r q → Leaves r q
 after_leaves r q n (pass d) = kept (pass_kept r d)
@@ -93,7 +93,7 @@ leaves_order r q (started f s) e = true_false (sym e ∙ f)
 
 -- ---- every run of a show
 
-opened_sized : (s : Show) (o : Opened) → OpenIs s o → o.check ≡ Within → Sized o.run
+opened_sized : (s : Show) (o : Opened) → OpenIs s o → o.check ≡ Ok tt → Sized o.run
 unfolding first_run
 opened_sized s o h e =
     let b = opened_begins s o h e in
@@ -102,7 +102,7 @@ opened_sized s o h e =
       order = ap (λ (r : Run). length r.order) b.first ∙ table_length s.playing b.within.counts.sessions;
     }
 
-opened_smallest : (s : Show) (o : Opened) → OpenIs s o → o.check ≡ Within → Smallest (load_of s) (set_of o.run.counts)
+opened_smallest : (s : Show) (o : Opened) → OpenIs s o → o.check ≡ Ok tt → Smallest (load_of s) (set_of o.run.counts)
 unfolding first_run
 opened_smallest s o h e =
     let b = opened_begins s o h e in
@@ -138,7 +138,7 @@ always s r (called p q h a) =
 -- ---- loaded until Idle
 
 idle_starts :
-    (r : Run) → SoundRun r → 0 < playing r → r.started ≡ false → (choose_of r).choice ≡ Idle → (start_of (choose_of r).run).check ≡ Within
+    (r : Run) → SoundRun r → 0 < playing r → r.started ≡ false → (choose_of r).choice ≡ Idle → (start_of (choose_of r).run).check ≡ Ok tt
 unfolding idled
 idle_starts r s l f e =
     rw (idle_run r e l)

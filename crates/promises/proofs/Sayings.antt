@@ -1,4 +1,5 @@
 -- What is said on the telephone: the worked texts are computed. Assumes nothing.
+use Rattle.std.specs.Prelude.{Ok, Some, None, Result, Option}
 use Prim.Native.Nat.{ℕ, ◌≤◌}
 use mathlib.Core.Path.{◌≡◌, refl, sym}
 use mathlib.Core.List.{List, [], ◌∷◌}
@@ -10,7 +11,6 @@ use lib.ListN.{length, replicate}
 use Rattle.show.specs.declared.Show.{Show}
 use Rattle.show.specs.declared.refusal.Refusal.{Refusal}
 use Rattle.show.specs.Refusals.{number_of}
-use Rattle.show.specs.declared.refusal.Check.TheVariants.{Within}
 use Rattle.show.specs.Limits.{ShowWithin}
 use Rattle.show.specs.Decisions.{counts?, drive?, layout?, session?}
 use Rattle.show.specs.Checks.{show_check, first_below}
@@ -35,7 +35,6 @@ use Rattle.verdict.proofs.Decisions.{accepted_exactly}
 use Rattle.text.specs.Decimal.{digits, decimal}
 use Rattle.reason.specs.declared.Reason.{Reason}
 use Rattle.reason.specs.declared.Reason.TheVariants as reason
-use Rattle.reason.specs.declared.Loaded.TheVariants.{Tenths}
 use Rattle.reason.specs.Answers.{ReasonIs, none, overload, buffer, loaded_of}
 use Rattle.reason.specs.Steps.{widest_of}
 use Rattle.reason.proofs.Reasons.{wide_counts}
@@ -55,15 +54,15 @@ use Rattle.promises.proofs.Table.{table, settles, all, both}
 use Rattle.promises.proofs.Trips.{trips}
 
 -- A file that was written of a show is told by the reason for the show.
-module _ (x : Show) (note : List ℕ) (shaped : Shaped x) (w : ShowWithin x) (h : length note ≤ note_most) (r : Reason) (is : ReasonIs x r) where
+module _ (x : Show) (note : List ℕ) (shaped : Shaped x) (w : ShowWithin x) (h : length note ≤ note_most) (r : (Result (Option Reason) Refusal)) (is : ReasonIs x r) where
   -- what is read of it
   abbrev got : Reading
-  got = reading Within (zeroed x) (length note)
+  got = reading (Ok tt) (zeroed x) (length note)
 
   as_read : got ≡ read_of (file_of x note)
   as_read = sym (file_read x note shaped.layouts shaped.sessions w h)
 
-  said : loaded_of (zeroed x) ≡ Tenths (tenths (load_of (zeroed x))) → SaidIs (file_of x note) (reason_text r (tenths (load_of (zeroed x))))
+  said : loaded_of (zeroed x) ≡ Ok (tenths (load_of (zeroed x))) → SaidIs (file_of x note) (reason_text r (tenths (load_of (zeroed x))))
   said e =
       told_reason (file_of x note) got as_read refl (loaded_of (zeroed x)) refl (tenths (load_of (zeroed x))) r e
       (alike_reason x (zeroed x) (trips.read_again x note shaped w h).alike r is)
@@ -72,7 +71,7 @@ module _ (x : Show) (note : List ℕ) (shaped : Shaped x) (w : ShowWithin x) (h 
 abbrev three : Show
 three = show_of X (replicate 3 clip)
 
-three_none : ReasonIs three reason.None
+three_none : ReasonIs three (Ok None)
 unfolding show_check first_below counts? drive? layout? session? dec_lt cost_of worst_time edges ceil sum_to listed padded
 three_none = let a = (accepted_exactly three _ table.p3.twice).0 refl in none a.0 a.1
 
@@ -80,7 +79,7 @@ three_none = let a = (accepted_exactly three _ table.p3.twice).0 refl in none a.
 abbrev ten : Show
 ten = show_of Z (replicate 10 clip)
 
-ten_overloads : ReasonIs ten reason.Overload
+ten_overloads : ReasonIs ten (Ok (Some reason.Overload))
 unfolding show_check first_below counts? drive? layout? session? dec_lt cost_of sum_to listed
 ten_overloads =
     let w : ShowWithin ten = check_within ten refl in
@@ -90,7 +89,7 @@ ten_overloads =
 abbrev pub one : Show
 one = show_of X (buffered 102400 ∷ [])
 
-pub one_short : ReasonIs one (reason.Buffer 0 102401)
+pub one_short : ReasonIs one (Ok (Some (reason.Buffer 0 102401)))
 unfolding show_check first_below counts? drive? layout? session? dec_lt cost_of worst_time edges ceil turns sum_to need all both listed padded
 one_short =
     buffer 0 102401 (check_within one refl)
@@ -105,7 +104,7 @@ one_short =
 
 either :
     (f t : List ℕ) → SaidIs f t →
-    ((r : Reason) × (((r ≡ reason.None) ⊎ ForEight r) × (t ≡ reason_text r (tenths (load_of (read_of f).show)))))
+    ((r : (Result (Option Reason) Refusal)) × (((r ≡ Ok None) ⊎ ForEight r) × (t ≡ reason_text r (tenths (load_of (read_of f).show)))))
     ⊎ ((w : Refusal) × (OneOf (1 ∷ 2 ∷ 3 ∷ 4 ∷ 5 ∷ 6 ∷ 7 ∷ []) (number_of w) × (t ≡ refusal_text w)))
 either f t (because r e is) = inl (r, ((reasons.when_true (read_of f).show r is).one (read_within f e), refl))
 either f t (unread w e) = inr (w, (only.reading f w e, refl))
@@ -114,9 +113,9 @@ pub sayings : Sayings
 unfolding show_check first_below counts? drive? layout? session? dec_lt cost_of sum_to listed padded zeroed digits decimal tenths loaded_of
 sayings =
     record {
-      p3 = said three [] (record { layouts = refl; sessions = refl }) (check_within three refl) (omega arith) reason.None three_none refl;
-      p6 = said ten [] (record { layouts = refl; sessions = refl }) (check_within ten refl) (omega arith) reason.Overload ten_overloads refl;
-      p2 = said one [] (record { layouts = refl; sessions = refl }) (check_within one refl) (omega arith) (reason.Buffer 0 102401) one_short refl;
+      p3 = said three [] (record { layouts = refl; sessions = refl }) (check_within three refl) (omega arith) (Ok None) three_none refl;
+      p6 = said ten [] (record { layouts = refl; sessions = refl }) (check_within ten refl) (omega arith) (Ok (Some reason.Overload)) ten_overloads refl;
+      p2 = said one [] (record { layouts = refl; sessions = refl }) (check_within one refl) (omega arith) (Ok (Some (reason.Buffer 0 102401))) one_short refl;
       either = either;
       most = said_most_holds;
     }

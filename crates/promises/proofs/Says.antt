@@ -1,4 +1,5 @@
 -- What a refusal is told apart by, and the law by which a call whose order is known says none but some of the numbers. Assumes nothing.
+use Rattle.std.specs.Prelude.{Ok, Err}
 use Prim.Native.Nat.{ℕ, ◌<◌}
 use mathlib.Core.Path.{◌≡◌, refl, sym, ap, subst, ◌∙◌}
 use mathlib.Core.Bool.{Bool, true, false, ◌||◌}
@@ -6,17 +7,14 @@ use mathlib.Core.List.{List, [], ◌∷◌}
 use mathlib.Core.Logic.{inl, inr}
 use native.Mathlib.Omega.{arith}
 use lib.Dec.{T, eqb, eqb→eq}
+use Rattle.show.specs.Outcomes.{Check}
 use Rattle.show.specs.declared.Show.{Show}
 use Rattle.show.specs.declared.refusal.Refusal.{Refusal}
-use Rattle.show.specs.declared.refusal.Check.TheVariants.{Refused}
 use Rattle.show.specs.Limits.{layout_at, session_at}
 use Rattle.show.specs.Decisions.{layout?, session?}
 use Rattle.show.specs.Refusals.{number_of}
 use Rattle.show.specs.Outcomes.{Outcome, refused_by}
 use Rattle.show.proofs.Checks.{within_refused}
-use Rattle.verdict.specs.declared.Verdict.{Verdict}
-use Rattle.verdict.specs.declared.Verdict.TheVariants as verdict
-use Rattle.trial.specs.declared.Answer.TheVariants as answer
 use Rattle.showfile.specs.Answers.{shown_at}
 use Rattle.run.specs.Opening.{opened_by}
 use Rattle.promises.specs.Refusals.{OneOf, Says}
@@ -25,25 +23,25 @@ use Rattle.promises.proofs.Numbered.{numbered}
 
 -- ---- refusals told apart, alone and inside other answers
 
-pub same_refusal : {v w : Refusal} → Refused v ≡ Refused w → v ≡ w
+pub same_refusal : {v w : Refusal} → Err v ≡ Err w → v ≡ w
 same_refusal e = cc
 
-pub same_verdict : {v w : Refusal} → verdict.Refused v ≡ verdict.Refused w → v ≡ w
+pub same_verdict : {v w : Refusal} → Err v ≡ Err w → v ≡ w
 same_verdict e = cc
 
-pub same_answer : {v w : Refusal} → answer.Refused v ≡ answer.Refused w → v ≡ w
+pub same_answer : {v w : Refusal} → Err v ≡ Err w → v ≡ w
 same_answer e = cc
 
-pub holds_refused : {X : Type 0} {w : Refusal} → answer.Holds ≡ answer.Refused w → X
+pub holds_refused : {X : Type 0} {w : Refusal} → (Ok true) ≡ Err w → X
 holds_refused e = let z : ◌≡◌ {A = ℕ} 0 1 = cc in absurd (let f : ⊥ = omega arith in f)
 
-pub fails_refused : {X : Type 0} {w : Refusal} → answer.Fails ≡ answer.Refused w → X
+pub fails_refused : {X : Type 0} {w : Refusal} → (Ok false) ≡ Err w → X
 fails_refused e = let z : ◌≡◌ {A = ℕ} 0 1 = cc in absurd (let f : ⊥ = omega arith in f)
 
 module _ (s : Show) (c : List ℕ) where
-  pub opened_refused : (v : Verdict) (w : Refusal) → (opened_by s c v).check ≡ Refused w → v ≡ verdict.Refused w
-  opened_refused verdict.Accepted w e = within_refused e
-  opened_refused (verdict.Refused v) w e = ap verdict.Refused (same_refusal e)
+  pub opened_refused : (v : Check) (w : Refusal) → (opened_by s c v).check ≡ Err w → v ≡ Err w
+  opened_refused (Ok tt) w e = within_refused e
+  opened_refused (Err v) w e = ap Err (same_refusal e)
 
 -- ---- one of some numbers
 

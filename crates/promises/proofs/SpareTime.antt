@@ -1,4 +1,5 @@
 -- Spare time to the microsecond, by citation. Assumes nothing.
+use Rattle.std.specs.Prelude.{Ok, Err, None}
 use Prim.Native.Nat.{ℕ, ◌-◌, ◌≤◌, ◌<◌}
 use mathlib.Core.Path.{◌≡◌, refl, sym, ap, subst, ◌∙◌}
 use mathlib.Core.Bool.{false}
@@ -9,17 +10,15 @@ use native.Mathlib.Decide.{dec_lt, ℕ_discrete}
 use lib.IntN.{ℤ, pos}
 use lib.ListN.{length, get_or}
 use lib.Signed.{◌≤ℤ◌, clash_ℤ}
+use Rattle.show.specs.Outcomes.{Check}
 use Rattle.show.specs.declared.refusal.Refusal.{Refusal}
 use Rattle.show.specs.declared.refusal.Refusal.TheVariants.{Damaged}
-use Rattle.show.specs.declared.refusal.Check.{Check}
-use Rattle.show.specs.declared.refusal.Check.TheVariants.{Within}
 use Rattle.theory.specs.Floor.{Floors}
 use Rattle.theory.specs.Slack.{less?, spare_by, slack_by, Before, rank}
 use Rattle.theory.proofs.Integers.{not_less, ≤ℤ-antisymm}
 use Rattle.theory.proofs.Floor.{floor_floors}
 use Rattle.theory.proofs.Slack.{attained, slack_least, rank_below, rank_rises, rank_first, rank_apart}
 use Rattle.verdict.specs.Answers.{set_of}
-use Rattle.run.specs.declared.Underway.TheVariants.{Nothing}
 use Rattle.run.specs.declared.Run.{Run}
 use Rattle.run.specs.Run.{playing, clip_at, seat_at, left_in}
 use Rattle.run.specs.Sound.{SoundRun, NamesEach}
@@ -28,7 +27,6 @@ use Rattle.run.specs.Answers.{moved}
 use Rattle.run.specs.declared.Moved.{Moved}
 use Rattle.run.proofs.Answered.{moved_check}
 use Rattle.run.proofs.Orders.{names_below}
-use Rattle.workahead.specs.declared.Spare.TheVariants as spare
 use Rattle.standing.specs.Times.{ahead_at, time_at, place_at}
 use Rattle.order.specs.Order.{ahead_in, place_in}
 use Rattle.standing.specs.Standing.{spare_in}
@@ -50,7 +48,7 @@ use Rattle.promises.specs.SpareTime.{lead_of, lead_at, LeastOf, AtFirst, SpareTi
 
 -- A time is told of a sound run alone.
 timed_sound :
-    (r : Run) (a : Spared) (z : ℤ) → ((SoundRun r → ⊥) → record { spare = spare.Refused Damaged; run = r } ≡ a) → a.spare ≡ spare.Time z →
+    (r : Run) (a : Spared) (z : ℤ) → ((SoundRun r → ⊥) → record { spare = Err Damaged; run = r } ≡ a) → a.spare ≡ Ok z →
     SoundRun r
 timed_sound r a z damaged e =
     elim (sound? r) [
@@ -58,10 +56,10 @@ timed_sound r a z damaged e =
       | no n ↦ clash (ap (λ (b : Spared). b.spare) (damaged n) ∙ e)
     ]
   where
-    clash : {X : Type 0} {w : Refusal} → spare.Refused w ≡ spare.Time z → X
+    clash : {X : Type 0} {w : Refusal} → Err w ≡ Ok z → X
     clash f = let z : ◌≡◌ {A = ℕ} 0 1 = cc in absurd (let g : ⊥ = omega arith in g)
 
-floored : (r : Run) (i : ℕ) (z : ℤ) → (workahead_of r i).spare ≡ spare.Time z → Floors (lead_at r i) (clip_at r i).rate z
+floored : (r : Run) (i : ℕ) (z : ℤ) → (workahead_of r i).spare ≡ Ok z → Floors (lead_at r i) (clip_at r i).rate z
 floored r i z e =
     let t = workahead_told r i z e in
     subst (Floors (lead_at r i) (clip_at r i).rate) (sym t.1)
@@ -77,8 +75,8 @@ slack_is place w u n l =
 
 -- ---- start
 
-module _ (r : Run) (e : (start_of r).check ≡ Within) where
-  checked : start_check r ≡ Within
+module _ (r : Run) (e : (start_of r).check ≡ Ok tt) where
+  checked : start_check r ≡ Ok tt
   unfolding start_of
   checked = sym (moved_check (start_check r) r (running r)) ∙ e
 
@@ -118,7 +116,7 @@ rank_before w n i j l m h =
           ])
     ]
 
-module _ (r : Run) (n : Sized r) (e : (start_of r).check ≡ Within) where
+module _ (r : Run) (n : Sized r) (e : (start_of r).check ≡ Ok tt) where
   start_each : NamesEach (start_of r).run.order (playing r)
   unfolding running
   start_each = rw (start_runs r e) (start_names r (few r e n))
@@ -131,13 +129,13 @@ module _ (r : Run) (n : Sized r) (e : (start_of r).check ≡ Within) where
       let b = seat_ranks r e n k m in
       rank_before (ahead_at r) (playing r) _ _ a.0 b.0 (let p = a.1 in let q = b.1 in omega arith))
 
-module _ (r : Run) (e : (start_of r).check ≡ Within) where
+module _ (r : Run) (e : (start_of r).check ≡ Ok tt) where
   start_first_session : AtFirst (start_of r).run
   unfolding running left_in
   start_first_session = rw (start_runs r e) (record { place = refl; left = refl; underway = (starts r (checked r e)).free })
 
 start_within :
-    (r : Run) (z : ℤ) → (slack_of r).spare ≡ spare.Time z → r.started ≡ false → r.underway ≡ Nothing → pos 0 ≤ℤ z → (start_of r).check ≡ Within
+    (r : Run) (z : ℤ) → (slack_of r).spare ≡ Ok z → r.started ≡ false → r.underway ≡ None → pos 0 ≤ℤ z → (start_of r).check ≡ Ok tt
 start_within r z e fresh free enough =
     let t = slack_told r z e in
     let s = timed_sound r (slack_of r) z (slack_damaged r) e in

@@ -1,4 +1,5 @@
 -- The worked numbers hold: each is computed, but for p6, which is the law of overload. Assumes nothing.
+use Rattle.std.specs.Prelude.{Ok}
 use Prim.Native.Nat.{ℕ, zero, suc, ◌*◌, ◌≤◌, ◌<◌}
 use mathlib.Core.Path.{◌≡◌, refl, ap, ◌∙◌, subst}
 use mathlib.Core.Bool.{Bool, true, false}
@@ -11,7 +12,6 @@ use lib.Seq.{get_or-take}
 use lib.Dec.{T, leb, ltb, eqb, leb→le, ltb→lt, eqb→eq}
 use Rattle.show.specs.declared.Session.{Session}
 use Rattle.show.specs.declared.Show.{Show}
-use Rattle.show.specs.declared.refusal.Check.TheVariants.{Within}
 use Rattle.show.specs.Limits.{Between, ShowWithin, LaidWithin, buffer_most, session_at, no_session}
 use Rattle.show.specs.Decisions.{counts?, drive?, layout?, session?}
 use Rattle.show.specs.Checks.{show_check, first_below}
@@ -28,8 +28,6 @@ use Rattle.theory.specs.Shows.{load_of}
 use Rattle.theory.proofs.Rounds.{start_below, turns_below, still_least, least_smallest, unfit_refuses}
 use Rattle.theory.proofs.Overload.{overload_refuses}
 use Rattle.theory.proofs.Shows.{show_sound}
-use Rattle.trial.specs.declared.Answer.TheVariants.{Fails}
-use Rattle.verdict.specs.declared.Verdict.TheVariants.{Accepted}
 use Rattle.verdict.specs.declared.Decision.{Decision}
 use Rattle.verdict.specs.Answers.{DecisionIs, accepted, no_set, accepted_with, set_of, verdict_outcome}
 use Rattle.trial.specs.Answers.{TrialIs, fails, timed_as}
@@ -66,7 +64,7 @@ all_at f (suc n) t i h = from (dec_lt i n) (all_at f n (both_yes (f n) (all f n)
 eight : (s : Show) → DecisionIs s no_set_found → RefusedEight s
 eight s h = record { answer = h; outcome = λ d g. ap (λ (a : Decision). verdict_outcome a.verdict) (decision_once s d no_set_found g h) }
 
-module _ (s : Show) (e : show_check s ≡ Within) (k x : ℕ) (turned : turns (load_of s) k 0 ≡ x) where
+module _ (s : Show) (e : show_check s ≡ Ok tt) (k x : ℕ) (turned : turns (load_of s) k 0 ≡ x) where
   not_past : NotPast (load_of s) x
   not_past =
       let sound = show_sound s (check_within s e) in
@@ -90,9 +88,9 @@ module _ (s : Show) (e : show_check s ≡ Within) (k x : ℕ) (turned : turns (l
 
 -- Counts whose session 0 is not ahead of its rate.
 behind :
-    (s : Show) → show_check s ≡ Within → (m : List ℕ) → T (ltb 0 s.playing) →
+    (s : Show) → show_check s ≡ Ok tt → (m : List ℕ) → T (ltb 0 s.playing) →
     T (leb (set_of m 0 * unit (load_of s)) (((load_of s).stream 0).rate * round_time (load_of s) (set_of m))) →
-    TrialIs s m (timed_as Fails (load_of s) (set_of m))
+    TrialIs s m (timed_as (Ok false) (load_of s) (set_of m))
 behind s e m some late =
     fails (check_within s e)
     (λ g.
@@ -127,7 +125,7 @@ nobody s w e =
         ap
         (λ (n : ℕ).
         record {
-          verdict = Accepted;
+          verdict = Ok tt;
           round = sum_to (λ i. ((load_of s).stream i).time 0) n;
           counts = padded 16 0 (listed (λ i. 0) n);
           times = padded 16 0 (listed (λ i. ((load_of s).stream i).time 0) n);

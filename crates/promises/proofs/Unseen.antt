@@ -1,4 +1,5 @@
 -- Shows and runs that differ in unused places alone are answered alike, and the runs stay so. Assumes nothing.
+use Rattle.std.specs.Prelude.{Ok, Err}
 use Prim.Native.Nat.{ℕ}
 use mathlib.Core.Path.{◌≡◌, refl, sym, ap, ap₂, subst, ◌∙◌}
 use mathlib.Core.Bool.{Bool}
@@ -6,10 +7,9 @@ use native.Mathlib.Omega.{arith}
 use native.Mathlib.Decide.{dec_lt}
 use mathlib.Core.List.{List}
 use lib.ListN.{get_or}
+use Rattle.show.specs.Outcomes.{Check}
 use Rattle.show.specs.declared.Show.{Show}
 use Rattle.show.specs.declared.refusal.Refusal.TheVariants as refusal
-use Rattle.show.specs.declared.refusal.Check.{Check}
-use Rattle.show.specs.declared.refusal.Check.TheVariants.{Within}
 use Rattle.show.specs.Checks.{first}
 use Rattle.show.specs.Limits.{Alike}
 use Rattle.show.proofs.Checks.{unless_within, first_left, first_right}
@@ -18,8 +18,6 @@ use Rattle.cost.proofs.WorstTimes.{alike_worst}
 use Rattle.showfile_write.proofs.Unused.{written_same, buffer_same}
 use Rattle.showfile_copy.proofs.UnusedAgain.{reread_same}
 use Rattle.verdict.specs.declared.Decision.{Decision}
-use Rattle.verdict.specs.declared.Verdict.{Verdict}
-use Rattle.verdict.specs.declared.Verdict.TheVariants as verdict
 use Rattle.verdict.proofs.Once.{decision_once}
 use Rattle.verdict.proofs.Unused.{alike_decision}
 use Rattle.state.specs.declared.State.{State}
@@ -66,7 +64,7 @@ module _ (r q : Run) (n : Sized r) (m : Sized q) (a : AlikeRuns r q) where
   take_same i k =
       moved_same (take_check r i k) (take_check q i k) r q (drawn_at r i k) (drawn_at q i k) (take_checks i k) a granted
     where
-      granted : take_check r i k ≡ Within → AlikeRuns (drawn_at r i k) (drawn_at q i k)
+      granted : take_check r i k ≡ Ok tt → AlikeRuns (drawn_at r i k) (drawn_at q i k)
       granted e =
           let late = first (early_check r.started) (held_check (state_at r i) k) in
           let f = first_left (present_check r i) late (first_right (sound_check r) (first (present_check r i) late) e) in
@@ -90,9 +88,9 @@ first_alike s t a counts =
       started = refl;
     }
 
-opened_same : (s t : Show) → Alike s t → (counts : List ℕ) (v : Verdict) → SameOpened (opened_by s counts v) (opened_by t counts v)
-opened_same s t a counts verdict.Accepted = (refl, first_alike s t a counts)
-opened_same s t a counts (verdict.Refused w) = (refl, same_runs no_run)
+opened_same : (s t : Show) → Alike s t → (counts : List ℕ) (v : Check) → SameOpened (opened_by s counts v) (opened_by t counts v)
+opened_same s t a counts (Ok tt) = (refl, first_alike s t a counts)
+opened_same s t a counts (Err w) = (refl, same_runs no_run)
 
 opening_same : (s t : Show) (o p : Opened) → Alike s t → OpenIs s o → OpenIs t p → SameOpened o p
 opening_same s t o p a h g =

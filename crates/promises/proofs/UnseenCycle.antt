@@ -1,17 +1,15 @@
 -- Runs that differ in unused places alone are chosen for alike and finish alike. Assumes nothing.
+use Rattle.std.specs.Prelude.{Ok, Err, Some, None, Option}
 use Prim.Native.Nat.{ℕ, zero, suc, ◌+◌, ◌≤◌, ◌<◌}
 use mathlib.Core.Path.{◌≡◌, refl, ap, ap₂, subst, ◌∙◌}
 use mathlib.Core.Logic.{ite}
 use native.Mathlib.Omega.{arith}
 use native.Mathlib.Decide.{dec_le, dec_lt, ℕ_discrete}
 use lib.ListN.{length}
+use Rattle.show.specs.Outcomes.{Check}
 use Rattle.show.specs.declared.Drive.{Drive}
-use Rattle.show.specs.declared.refusal.Check.{Check}
-use Rattle.show.specs.declared.refusal.Check.TheVariants.{Within, Refused}
 use Rattle.show.specs.Checks.{first}
 use Rattle.state.specs.declared.State.{State}
-use Rattle.run.specs.declared.Underway.{Underway}
-use Rattle.run.specs.declared.Underway.TheVariants as underway
 use Rattle.run.specs.declared.Run.{Run}
 use Rattle.state.specs.State.{no_state, filled}
 use Rattle.run.specs.Run.{playing, seat_at, left_at, onward, RoomAt, PutAt}
@@ -77,7 +75,7 @@ module _ (r q : Run) (a : AlikeRuns r q) (s : SoundRun r) (some : 0 < playing r)
   unfolding begun
   begun_alike k =
       cycle_alike r q a (onward r k) (onward q k) _ _ _ _ (onward_alike r q a k) (ap₂ (left_after k) a.left (left_there k))
-      (ap underway.Read (seat_alike k))
+      (ap Some (seat_alike k))
 
 module _ (r q : Run) (a : AlikeRuns r q) (s : SoundRun r) (some : 0 < playing r) where
   other : AlikeRuns q r
@@ -123,18 +121,18 @@ pub choose_same : (r q : Run) → AlikeRuns r q → SameChosen (choose_of r) (ch
 unfolding choose_of choose_check
 choose_same r q a =
     subst (λ (k : Check). SameChosen (choose_of r) (chosen_by k q))
-    (ap₂ (λ (k : Check) (u : Underway). first k (free_check u)) (sound_same r q a) a.underway) (from (choose_check r) refl)
+    (ap₂ (λ (k : Check) (u : (Option ℕ)). first k (free_check u)) (sound_same r q a) a.underway) (from (choose_check r) refl)
   where
     from : (k : Check) → choose_check r ≡ k → SameChosen (chosen_by k r) (chosen_by k q)
-    from Within e = next_same r q a (sound_passed r (free_check r.underway) e)
-    from (Refused w) e = (refl, a)
+    from (Ok tt) e = next_same r q a (sound_passed r (free_check r.underway) e)
+    from (Err w) e = (refl, a)
 
 -- ---- finish
 
 -- One block fewer is left, of runs whose states and cycles agree.
 landed_alike :
     (r q : Run) → AlikeRuns r q → SoundRun r → playing r ≤ length r.states → playing r ≤ length q.states → (i : ℕ) →
-    r.underway ≡ underway.Read i → AlikeRuns (landed r i) (landed q i)
+    r.underway ≡ Some i → AlikeRuns (landed r i) (landed q i)
 unfolding landed counted
 landed_alike r q a s n m i e =
     let f = a.left in
@@ -158,15 +156,15 @@ module _ (r q : Run) (n : Sized r) (m : Sized q) (a : AlikeRuns r q) (d : ℕ) w
   finished_alike : SoundRun r → AlikeRuns (landed_for r.underway (passed r d)) (landed_for q.underway (passed q d))
   unfolding passed
   finished_alike s =
-      subst (λ (u : Underway). AlikeRuns (landed_for r.underway (passed r d)) (landed_for u (passed q d))) a.underway
+      subst (λ (u : (Option ℕ)). AlikeRuns (landed_for r.underway (passed r d)) (landed_for u (passed q d))) a.underway
       (from r.underway refl)
     where
       p : AlikeRuns (passed r d) (passed q d)
       p = passed_alike r q a n m s d
 
-      from : (u : Underway) → r.underway ≡ u → AlikeRuns (landed_for u (passed r d)) (landed_for u (passed q d))
-      from underway.Nothing e = p
-      from (underway.Read i) e =
+      from : (u : (Option ℕ)) → r.underway ≡ u → AlikeRuns (landed_for u (passed r d)) (landed_for u (passed q d))
+      from None e = p
+      from (Some i) e =
           landed_alike (passed r d) (passed q d) p (passed_sound r d (few r n s) s)
           (let x = (passed_kept r d).sized in let y = few r n s in omega arith)
           (let x = (passed_kept q d).sized in let y = few_too r q a n m s in omega arith) i e
@@ -175,5 +173,5 @@ module _ (r q : Run) (n : Sized r) (m : Sized q) (a : AlikeRuns r q) (d : ℕ) w
   unfolding finish_of finish_check
   finish_same =
       moved_same (finish_check r d) (finish_check q d) r q _ _
-      (ap₂ (λ (k : Check) (u : Underway). first k (first (span_check d) (busy_check u))) (sound_same r q a) a.underway) a
+      (ap₂ (λ (k : Check) (u : (Option ℕ)). first k (first (span_check d) (busy_check u))) (sound_same r q a) a.underway) a
       (λ e. finished_alike (sound_passed r (first (span_check d) (busy_check r.underway)) e))

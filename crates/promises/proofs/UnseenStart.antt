@@ -1,4 +1,5 @@
 -- Runs that differ in unused places alone have one workahead, one standing and one slack, and start alike. Assumes nothing.
+use Rattle.std.specs.Prelude.{Ok, Err, false}
 use Prim.Native.Nat.{ℕ, zero, suc, ◌≤◌, ◌<◌}
 use mathlib.Core.Path.{◌≡◌, refl, ap, ap₂, ◌∙◌}
 use mathlib.Core.Bool.{Bool}
@@ -10,7 +11,6 @@ use lib.IntN.{ℤ, pos}
 use lib.ListN.{length, get_or}
 use Rattle.show.specs.declared.Drive.{Drive}
 use Rattle.show.specs.declared.refusal.Refusal.TheVariants as refusal
-use Rattle.show.specs.declared.refusal.Check.TheVariants.{Within, Refused}
 use Rattle.show.specs.Checks.{unless, first}
 use Rattle.show.specs.Lists.{listed, padded}
 use Rattle.show.proofs.Checks.{unless_within, first_left, first_right}
@@ -131,7 +131,7 @@ module _ (r q : Run) (a : AlikeRuns r q) where
       (λ g.
       first_same (some_check r) (some_check q) some_same
       (λ h.
-      ap (λ (z : ℤ). ite (less? z (pos 0)) (Refused refusal.NegativeSlack) Within)
+      ap (λ (z : ℤ). ite (less? z (pos 0)) (Err refusal.NegativeSlack) (Ok tt))
       (slack_alike (unless_within (sound? r) refusal.Damaged e) (unless_within (dec_lt 0 (playing r)) refusal.NoSession h))))))
 
   module _ (n : Sized r) (m : Sized q) (s : SoundRun r) (some : 0 < playing r) where
@@ -164,7 +164,7 @@ module _ (r q : Run) (a : AlikeRuns r q) where
   unfolding start_of start_check
   start_same n m = moved_same (start_check r) (start_check q) r q (running r) (running q) start_checks a granted
     where
-      granted : start_check r ≡ Within → AlikeRuns (running r) (running q)
+      granted : start_check r ≡ Ok tt → AlikeRuns (running r) (running q)
       granted e =
           let last = first (some_check r) (slack_check r) in
           let late = first (free_check r.underway) last in

@@ -1,5 +1,6 @@
 -- Demand 1, that there is an answer. proofs/Answered.antt proves it.
-use Rattle.std.specs.Prelude.{ℕ, List}
+use Rattle.std.specs.Prelude.{ℕ, List, Result, Option}
+use Rattle.show.specs.declared.refusal.Refusal.{Refusal}
 use Rattle.show.specs.declared.Show.{Show}
 use Rattle.showfile.specs.declared.Written.{Written}
 use Rattle.verdict.specs.declared.Decision.{Decision}
@@ -18,6 +19,6 @@ pub record Answered : Type 0 where
   pub deciding : (s : Show) → (d : Decision) × DecisionIs s d
   pub trying : (s : Show) (m : List ℕ) → (t : Trial) × TrialIs s m t
   pub opening : (s : Show) → (o : Opened) × OpenIs s o
-  pub why : (s : Show) → (r : Reason) × ReasonIs s r
+  pub why : (s : Show) → (r : (Result (Option Reason) Refusal)) × ReasonIs s r
   pub reporting : (f b : List ℕ) → (r : Written) × ((x : List ℕ) × ReportIs f b r x)
   pub explaining : (f b : List ℕ) → (r : Written) × ((x : List ℕ) × ExplainIs f b r x)

@@ -1,11 +1,10 @@
 -- Demand 1 for C: what the calls answer in one number, and what is left in the slices. proofs/Embedded.antt proves it.
-use Rattle.std.specs.Prelude.{ℕ, ◌/◌, ◌%◌, ◌<◌, ◌≡◌, List, [], ◌∷◌, ◌↔◌, length}
+use Rattle.std.specs.Prelude.{ℕ, ◌/◌, ◌%◌, ◌<◌, ◌≡◌, List, [], ◌∷◌, ◌↔◌, length, Ok}
+use Rattle.show.specs.Outcomes.{Check}
 use Rattle.show.specs.declared.refusal.Refusal.{Refusal}
 use Rattle.show.specs.Refusals.{number_of, place_of}
 use Rattle.show.specs.Outcomes.{Outcome}
 use Rattle.theory.specs.Counts.{Accepted}
-use Rattle.verdict.specs.declared.Verdict.{Verdict}
-use Rattle.verdict.specs.declared.Verdict.TheVariants as verdict
 use Rattle.report.specs.Answers.{load_in, text_most}
 use Rattle.chikchiro.specs.Answers.{code_of, verdict_code, Slices, Enough, ReportedIs, DecidedIs, ReasonedIs}
 use Rattle.promises.specs.Refusals.{OneOf}
@@ -23,7 +22,7 @@ pub record Embedded : Type 0 where
   -- From the one number that stands for a refusal its number is read, and its place; and it is not 0, which stands for a yes.
   pub number : (w : Refusal) → code_of w % 256 ≡ number_of w
   pub place : (w : Refusal) → code_of w / 256 ≡ place_of w
-  pub yes : (v : Verdict) → (verdict_code v ≡ 0) ↔ (v ≡ verdict.Accepted)
+  pub yes : (v : Check) → (verdict_code v ≡ 0) ↔ (v ≡ Ok tt)
   -- No other number is said than these.
   pub decided_says :
       (f : List ℕ) (b : Slices) (r : ℕ) (x : Slices) → DecidedIs f b r x → (w : Refusal) → r ≡ code_of w →

@@ -1,31 +1,25 @@
 -- The worked numbers of docs/RULES.md, section 5, and beside p8 a run with unequal counts, as one statement over one table. proofs/Table.antt
 -- proves it.
-use Rattle.std.specs.Prelude.{ℕ, ◌*◌, ◌<◌, ◌≡◌, Bool, true, false, List, [], ◌∷◌, ◌++◌, pos, negsuc, length, replicate, take, get_or}
+use Rattle.std.specs.Prelude.{ℕ, ◌*◌, ◌<◌, ◌≡◌, Bool, true, false, List, [], ◌∷◌, ◌++◌, pos, negsuc, length, replicate, take, get_or, Ok, None}
 use Rattle.show.specs.declared.Drive.{Drive}
 use Rattle.show.specs.declared.Layout.{Layout}
 use Rattle.show.specs.declared.Session.{Session}
 use Rattle.show.specs.declared.Show.{Show}
 use Rattle.show.specs.declared.refusal.Refusal.TheVariants.{NoSet}
-use Rattle.show.specs.declared.refusal.Check.TheVariants.{Within}
 use Rattle.show.specs.Limits.{Between, ShowWithin, buffer_most, no_layout, no_session}
 use Rattle.show.specs.Lists.{listed}
-use Rattle.cost.specs.declared.worst.Worst.TheVariants.{Takes}
 use Rattle.cost.specs.WorstTimes.{worst_of}
 use Rattle.theory.specs.Slack.{slack_by}
 use Rattle.theory.specs.Counts.{unit, round_time}
 use Rattle.theory.specs.Shows.{load_of}
 use Rattle.verdict.specs.declared.Decision.{Decision}
 use Rattle.trial.specs.declared.Trial.{Trial}
-use Rattle.verdict.specs.declared.Verdict.TheVariants as verdict
-use Rattle.trial.specs.declared.Answer.TheVariants as answer
 use Rattle.verdict.specs.Answers.{DecisionIs, refused_for, set_of, verdict_outcome}
 use Rattle.trial.specs.Answers.{TrialIs}
 use Rattle.state.specs.declared.State.{State}
-use Rattle.run.specs.declared.Underway.TheVariants.{Nothing}
 use Rattle.run.specs.declared.Run.{Run}
 use Rattle.state.specs.State.{no_state}
 use Rattle.playback.specs.Answers.{pass_of}
-use Rattle.workahead.specs.declared.Spare.TheVariants.{Time}
 use Rattle.standing.specs.declared.Standing.{Standing}
 use Rattle.standing.specs.Times.{ahead_at, time_at}
 use Rattle.standing.specs.Answers.{slack_for}
@@ -68,7 +62,7 @@ places l = take 16 (l ++ replicate 16 0)
 
 -- Accepted: L, the counts and U of each.
 abbrev pub yes_with : ℕ → List ℕ → List ℕ → Decision
-yes_with L counts times = record { verdict = verdict.Accepted; round = L; counts = places counts; times = places times }
+yes_with L counts times = record { verdict = Ok tt; round = L; counts = places counts; times = places times }
 
 -- d is the answer, and what is answered comes to the number n, with place 0 and no values.
 pub record Decided (s : Show) (d : Decision) (n : ℕ) : Type 0 where
@@ -84,7 +78,7 @@ RefusedEight s = Decided s no_set_found 8
 
 -- Counts that are no feasible workahead-augmenting set: their L, and U of each.
 abbrev pub not_enough : ℕ → List ℕ → Trial
-not_enough L times = record { answer = answer.Fails; round = L; times = places times }
+not_enough L times = record { answer = Ok false; round = L; times = places times }
 
 -- A round of these counts takes so many µs, and each count lasts so many at its rate, to the microbyte: it must take less than they last.
 pub record Against (s : Show) (m : List ℕ) (taken lasting : ℕ) : Type 0 where
@@ -93,9 +87,9 @@ pub record Against (s : Show) (m : List ℕ) (taken lasting : ℕ) : Type 0 wher
 
 -- p1. X: U(1) = 42,000, U(10) = 132,000, U(11) = 144,000.
 pub record P1 : Type 0 where
-  pub one : worst_of (show_of X (clip ∷ [])) 0 1 ≡ Takes 42000
-  pub ten : worst_of (show_of X (clip ∷ [])) 0 10 ≡ Takes 132000
-  pub eleven : worst_of (show_of X (clip ∷ [])) 0 11 ≡ Takes 144000
+  pub one : worst_of (show_of X (clip ∷ [])) 0 1 ≡ Ok 42000
+  pub ten : worst_of (show_of X (clip ∷ [])) 0 10 ≡ Ok 132000
+  pub eleven : worst_of (show_of X (clip ∷ [])) 0 11 ≡ Ok 144000
 
 -- p2. One session on X: count 1; with B = 102,401 accepted, with 102,400 refused 8.
 pub record P2 : Type 0 where
@@ -151,7 +145,7 @@ run_of s counts states started =
       order = places (listed (λ i. i) s.playing);
       place = 0;
       left = get_or counts 0 0;
-      underway = Nothing;
+      underway = None;
       started = started;
     }
 
@@ -174,13 +168,13 @@ eighth_by at =
     }
 
 pub record P8 : Type 0 where
-  pub first : workahead_of eighth 0 ≡ record { spare = Time (pos 156000); run = eighth }
-  pub second : workahead_of eighth 1 ≡ record { spare = Time (pos 60000); run = eighth }
-  pub third : workahead_of eighth 2 ≡ record { spare = Time (pos 110000); run = eighth }
-  pub slack : slack_of eighth ≡ record { spare = Time (pos 0); run = eighth }
+  pub first : workahead_of eighth 0 ≡ record { spare = Ok (pos 156000); run = eighth }
+  pub second : workahead_of eighth 1 ≡ record { spare = Ok (pos 60000); run = eighth }
+  pub third : workahead_of eighth 2 ≡ record { spare = Ok (pos 110000); run = eighth }
+  pub slack : slack_of eighth ≡ record { spare = Ok (pos 0); run = eighth }
   pub table : slack_by (λ i. i) (ahead_at eighth) (time_at eighth) 3 ≡ negsuc 45999
-  pub given : slack_for (eighth_by (0 ∷ 1 ∷ 2 ∷ [])) ≡ Time (negsuc 45999)
-  pub start : (start_of eighth).check ≡ Within
+  pub given : slack_for (eighth_by (0 ∷ 1 ∷ 2 ∷ [])) ≡ Ok (negsuc 45999)
+  pub start : (start_of eighth).check ≡ Ok tt
   pub order : (start_of eighth).run.order ≡ places (1 ∷ 2 ∷ 0 ∷ [])
 
 -- Beside p8, unequal counts: two on X, the second at twice the rate: 1 and 2, L = 94,000. Workaheads 94,000 and 52,000: slack 0. It starts with the
@@ -193,10 +187,10 @@ uneven = run_of (show_of X (clip ∷ faster ∷ [])) (1 ∷ 2 ∷ []) (loaded 48
 
 pub record Uneven : Type 0 where
   pub counts : DecisionIs (show_of X (clip ∷ faster ∷ [])) (yes_with 94000 (1 ∷ 2 ∷ []) (42000 ∷ 52000 ∷ []))
-  pub first : workahead_of uneven 0 ≡ record { spare = Time (pos 94000); run = uneven }
-  pub second : workahead_of uneven 1 ≡ record { spare = Time (pos 52000); run = uneven }
-  pub slack : slack_of uneven ≡ record { spare = Time (pos 0); run = uneven }
-  pub start : (start_of uneven).check ≡ Within
+  pub first : workahead_of uneven 0 ≡ record { spare = Ok (pos 94000); run = uneven }
+  pub second : workahead_of uneven 1 ≡ record { spare = Ok (pos 52000); run = uneven }
+  pub slack : slack_of uneven ≡ record { spare = Ok (pos 0); run = uneven }
+  pub start : (start_of uneven).check ≡ Ok tt
   pub order : (start_of uneven).run.order ≡ places (1 ∷ 0 ∷ [])
   pub place : (start_of uneven).run.place ≡ 0
   pub left : (start_of uneven).run.left ≡ 2
@@ -206,12 +200,12 @@ abbrev pub clocked : ℕ → Run
 clocked C = run_of (show_of X (clip ∷ [])) (1 ∷ []) (record { put = 1; taken = 1; clock = C } ∷ []) true
 
 pub record P9 : Type 0 where
-  pub behind : workahead_of (clocked 1) 0 ≡ record { spare = Time (negsuc 0); run = clocked 1 }
+  pub behind : workahead_of (clocked 1) 0 ≡ record { spare = Ok (negsuc 0); run = clocked 1 }
 
 -- p10. Started, C = 0, G = 1: after 1 µs C is 512,000, after 2 µs 1,000,000.
 pub record P10 : Type 0 where
-  pub one : pass_of (clocked 0) 1 ≡ record { check = Within; run = clocked 512000 }
-  pub two : pass_of (clocked 0) 2 ≡ record { check = Within; run = clocked 1000000 }
+  pub one : pass_of (clocked 0) 1 ≡ record { check = Ok tt; run = clocked 512000 }
+  pub two : pass_of (clocked 0) 2 ≡ record { check = Ok tt; run = clocked 1000000 }
 
 pub record Table : Type 0 where
   -- An empty show is accepted with L = 0: every show within the limits that has no session.

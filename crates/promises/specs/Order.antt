@@ -1,6 +1,7 @@
 -- Demand 1, the order of refusals: of the faults that are present the first in a call's order is told, and no other. docs/RULES.md, section 4.
 -- proofs/Order.antt proves it.
-use Rattle.std.specs.Prelude.{ℕ, ◌-◌, ◌≤◌, ◌<◌, ◌≡◌, Bool, true, false, List, [], pos, ◌<ℤ◌, length, drop}
+use Rattle.std.specs.Prelude.{ℕ, ◌-◌, ◌≤◌, ◌<◌, ◌≡◌, Bool, true, false, List, [], pos, ◌<ℤ◌, length, drop, Some, None, Result, Option, ℤ}
+use Rattle.show.specs.declared.refusal.Refusal.{Refusal}
 use Rattle.show.specs.declared.Session.{Session}
 use Rattle.show.specs.declared.Show.{Show}
 use Rattle.show.specs.Limits.{Between, CountsWithin, DriveWithin, LaidWithin, PlayingWithin}
@@ -31,7 +32,6 @@ use Rattle.explain.specs.Answers.{ExplainIs, said_most}
 use Rattle.run.specs.declared.Opened.{Opened}
 use Rattle.run.specs.Opening.{OpenIs}
 use Rattle.state.specs.declared.State.{State}
-use Rattle.run.specs.declared.Underway.TheVariants.{Nothing, Read}
 use Rattle.run.specs.declared.Run.{Run}
 use Rattle.run.specs.Run.{span_most, playing, state_at, seat_at, onward, RoomAt, PutAt}
 use Rattle.state.specs.State.{StateSound}
@@ -94,7 +94,7 @@ pub record OfShows : Type 0 where
   pub deciding :
       (s : Show) (d : Decision) → DecisionIs s d → verdict_outcome d.verdict tells ShowThen s (8 when (Accepted (load_of s) → ⊥) else Grants)
   pub trying : (s : Show) (m : List ℕ) (t : Trial) → TrialIs s m t → answer_outcome t.answer tells ShowThen s Grants
-  pub why : (s : Show) (r : Reason) → ReasonIs s r → reason_outcome r tells ShowThen s Grants
+  pub why : (s : Show) (r : (Result (Option Reason) Refusal)) → ReasonIs s r → reason_outcome r tells ShowThen s Grants
   pub load : (s : Show) → loaded_outcome (loaded_of s) tells ShowThen s Grants
   pub opening : (s : Show) (o : Opened) → OpenIs s o → check_outcome o.check tells ShowThen s (8 when (Accepted (load_of s) → ⊥) else Grants)
 
@@ -148,7 +148,7 @@ TooLong d = span_most < d
 
 -- 13: a read under way
 abbrev pub Reading : Run → Type 0
-Reading r = (i : ℕ) × (r.underway ≡ Read i)
+Reading r = (i : ℕ) × (r.underway ≡ Some i)
 
 -- Choose comes to the session k places on: it has room, and those before it have none.
 pub record ComesTo (r : Run) (k : ℕ) : Type 0 where
@@ -171,7 +171,7 @@ pub record OfRuns : Type 0 where
       19 when (StateSound b x s → ⊥) else 12 when b ≡ false else 10 when TooMuch s n else Grants
   pub finish :
       (r : Run) (d : ℕ) → check_outcome (finish_of r d).check tells
-      19 when Damaged r else 11 when TooLong d else 17 when r.underway ≡ Nothing else Grants
+      19 when Damaged r else 11 when TooLong d else 17 when r.underway ≡ None else Grants
   pub choose : (r : Run) → choice_outcome (choose_of r).choice tells 19 when Damaged r else 13 when Reading r else 14 when PastLimit r else Grants
   pub ahead_of : (x : Session) (s : State) → spare_outcome (ahead_for x s) tells 7 when x.rate ≡ 0 else 19 when (Countable s → ⊥) else Grants
   pub stand : (r : Run) → check_outcome (stood_of r).check tells 19 when Damaged r else Grants

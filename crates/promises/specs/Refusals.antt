@@ -1,17 +1,14 @@
 -- Demand 1, what is said no with and what is left after it: docs/RULES.md, section 4. proofs/Refusals.antt proves it.
-use Rattle.std.specs.Prelude.{ℕ, ◌+◌, ◌<◌, ◌≡◌, Bool, List, [], ◌∷◌, ◌⊎◌, length}
+use Rattle.std.specs.Prelude.{ℕ, ◌+◌, ◌<◌, ◌≡◌, Bool, List, [], ◌∷◌, ◌⊎◌, length, Err, Result, Option}
 use Rattle.show.specs.declared.Session.{Session}
 use Rattle.show.specs.declared.Show.{Show}
 use Rattle.show.specs.declared.refusal.Refusal.{Refusal}
-use Rattle.show.specs.declared.refusal.Check.TheVariants.{Refused}
 use Rattle.show.specs.Limits.{Between, no_show}
 use Rattle.show.specs.Refusals.{number_of, place_of, told_of, number_most}
 use Rattle.show.specs.Checks.{show_check}
 use Rattle.show.specs.Outcomes.{Outcome, check_outcome}
 use Rattle.cost.specs.declared.Cost.{Cost}
-use Rattle.cost.specs.declared.worst.Worst.TheVariants as worst
 use Rattle.cost.specs.WorstTimes.{takes_of, worst_of, worst_outcome}
-use Rattle.count.specs.declared.Asked.TheVariants as asked
 use Rattle.count.specs.Answers.{need_of, asked_outcome}
 use Rattle.showfile.specs.declared.Written.{Written}
 use Rattle.showfile.specs.Answers.{read_of, note_of}
@@ -22,12 +19,9 @@ use Rattle.report.specs.Answers.{ReportIs}
 use Rattle.explain.specs.Answers.{ExplainIs}
 use Rattle.reason.specs.declared.Reason.{Reason}
 use Rattle.reason.specs.declared.Reason.TheVariants as reason
-use Rattle.reason.specs.declared.Loaded.TheVariants as loaded
 use Rattle.reason.specs.Answers.{ReasonIs, loaded_of, reason_outcome, loaded_outcome}
 use Rattle.verdict.specs.declared.Decision.{Decision}
 use Rattle.trial.specs.declared.Trial.{Trial}
-use Rattle.verdict.specs.declared.Verdict.TheVariants as verdict
-use Rattle.trial.specs.declared.Answer.TheVariants as answer
 use Rattle.verdict.specs.Answers.{DecisionIs, refused_for, verdict_outcome}
 use Rattle.trial.specs.Answers.{TrialIs, untried_for, answer_outcome}
 use Rattle.state.specs.declared.State.{State}
@@ -39,7 +33,6 @@ use Rattle.player.specs.Answers.{drawn_of}
 use Rattle.playback.specs.Answers.{pass_of, take_of, finish_of}
 use Rattle.scheduler.specs.declared.Choice.TheVariants as choice
 use Rattle.scheduler.specs.Answers.{choose_of, choice_outcome}
-use Rattle.workahead.specs.declared.Spare.TheVariants as spare
 use Rattle.standing.specs.declared.Standing.{Standing}
 use Rattle.standing.specs.Standing.{no_standing}
 use Rattle.workahead.specs.Answers.{ahead_for, spare_outcome}
@@ -81,55 +74,55 @@ pub record Numbered : Type 0 where
 
 -- No call says another number than these. Which of them, and when: record Order (specs/Order).
 pub record Only : Type 0 where
-  pub check : (s : Show) → Says Refused (show_check s) (2 ∷ 5 ∷ 6 ∷ 7 ∷ [])
-  pub takes : (c : Cost) (N n : ℕ) → Says worst.Refused (takes_of c N n) (5 ∷ 6 ∷ [])
-  pub need : (R A t : ℕ) → Says asked.Refused (need_of R A t) (5 ∷ 7 ∷ [])
-  pub worst_time : (s : Show) (i n : ℕ) → Says worst.Refused (worst_of s i n) (2 ∷ 5 ∷ 6 ∷ 7 ∷ 9 ∷ [])
-  pub reading : (f : List ℕ) → Says Refused (read_of f).check (1 ∷ 2 ∷ 3 ∷ 4 ∷ 5 ∷ 6 ∷ 7 ∷ [])
-  pub writing : (x : Show) (note : List ℕ) (room : ℕ) → Says Refused (written_of x note room).check (2 ∷ 4 ∷ 5 ∷ 6 ∷ 7 ∷ 16 ∷ [])
-  pub rereading : (x : Show) (note : List ℕ) (room : ℕ) → Says Refused (reread_of x note room).check (2 ∷ 4 ∷ 5 ∷ 6 ∷ 7 ∷ 16 ∷ [])
-  pub copying : (f : List ℕ) (room : ℕ) → Says Refused (copied_of f room).check (1 ∷ 2 ∷ 3 ∷ 4 ∷ 5 ∷ 6 ∷ 7 ∷ 16 ∷ [])
-  pub reporting : (f b : List ℕ) (r : Written) (x : List ℕ) → ReportIs f b r x → Says Refused r.check (16 ∷ [])
-  pub explaining : (f b : List ℕ) (r : Written) (x : List ℕ) → ExplainIs f b r x → Says Refused r.check (16 ∷ [])
-  pub deciding : (s : Show) (d : Decision) → DecisionIs s d → Says verdict.Refused d.verdict (2 ∷ 5 ∷ 6 ∷ 7 ∷ 8 ∷ [])
-  pub why : (s : Show) (r : Reason) → ReasonIs s r → Says reason.Refused r (2 ∷ 5 ∷ 6 ∷ 7 ∷ [])
-  pub load : (s : Show) → Says loaded.Refused (loaded_of s) (2 ∷ 5 ∷ 6 ∷ 7 ∷ [])
-  pub trying : (s : Show) (m : List ℕ) (t : Trial) → TrialIs s m t → Says answer.Refused t.answer (2 ∷ 5 ∷ 6 ∷ 7 ∷ [])
-  pub opening : (s : Show) (o : Opened) → OpenIs s o → Says Refused o.check (2 ∷ 5 ∷ 6 ∷ 7 ∷ 8 ∷ [])
-  pub pass : (r : Run) (d : ℕ) → Says Refused (pass_of r d).check (19 ∷ 11 ∷ [])
-  pub take : (r : Run) (i n : ℕ) → Says Refused (take_of r i n).check (19 ∷ 9 ∷ 12 ∷ 10 ∷ [])
-  pub player : (s : State) (x : Session) (b : Bool) (n : ℕ) → Says Refused (drawn_of s x b n).check (19 ∷ 12 ∷ 10 ∷ [])
-  pub finish : (r : Run) (d : ℕ) → Says Refused (finish_of r d).check (19 ∷ 11 ∷ 17 ∷ [])
+  pub check : (s : Show) → Says Err (show_check s) (2 ∷ 5 ∷ 6 ∷ 7 ∷ [])
+  pub takes : (c : Cost) (N n : ℕ) → Says Err (takes_of c N n) (5 ∷ 6 ∷ [])
+  pub need : (R A t : ℕ) → Says Err (need_of R A t) (5 ∷ 7 ∷ [])
+  pub worst_time : (s : Show) (i n : ℕ) → Says Err (worst_of s i n) (2 ∷ 5 ∷ 6 ∷ 7 ∷ 9 ∷ [])
+  pub reading : (f : List ℕ) → Says Err (read_of f).check (1 ∷ 2 ∷ 3 ∷ 4 ∷ 5 ∷ 6 ∷ 7 ∷ [])
+  pub writing : (x : Show) (note : List ℕ) (room : ℕ) → Says Err (written_of x note room).check (2 ∷ 4 ∷ 5 ∷ 6 ∷ 7 ∷ 16 ∷ [])
+  pub rereading : (x : Show) (note : List ℕ) (room : ℕ) → Says Err (reread_of x note room).check (2 ∷ 4 ∷ 5 ∷ 6 ∷ 7 ∷ 16 ∷ [])
+  pub copying : (f : List ℕ) (room : ℕ) → Says Err (copied_of f room).check (1 ∷ 2 ∷ 3 ∷ 4 ∷ 5 ∷ 6 ∷ 7 ∷ 16 ∷ [])
+  pub reporting : (f b : List ℕ) (r : Written) (x : List ℕ) → ReportIs f b r x → Says Err r.check (16 ∷ [])
+  pub explaining : (f b : List ℕ) (r : Written) (x : List ℕ) → ExplainIs f b r x → Says Err r.check (16 ∷ [])
+  pub deciding : (s : Show) (d : Decision) → DecisionIs s d → Says Err d.verdict (2 ∷ 5 ∷ 6 ∷ 7 ∷ 8 ∷ [])
+  pub why : (s : Show) (r : (Result (Option Reason) Refusal)) → ReasonIs s r → Says Err r (2 ∷ 5 ∷ 6 ∷ 7 ∷ [])
+  pub load : (s : Show) → Says Err (loaded_of s) (2 ∷ 5 ∷ 6 ∷ 7 ∷ [])
+  pub trying : (s : Show) (m : List ℕ) (t : Trial) → TrialIs s m t → Says Err t.answer (2 ∷ 5 ∷ 6 ∷ 7 ∷ [])
+  pub opening : (s : Show) (o : Opened) → OpenIs s o → Says Err o.check (2 ∷ 5 ∷ 6 ∷ 7 ∷ 8 ∷ [])
+  pub pass : (r : Run) (d : ℕ) → Says Err (pass_of r d).check (19 ∷ 11 ∷ [])
+  pub take : (r : Run) (i n : ℕ) → Says Err (take_of r i n).check (19 ∷ 9 ∷ 12 ∷ 10 ∷ [])
+  pub player : (s : State) (x : Session) (b : Bool) (n : ℕ) → Says Err (drawn_of s x b n).check (19 ∷ 12 ∷ 10 ∷ [])
+  pub finish : (r : Run) (d : ℕ) → Says Err (finish_of r d).check (19 ∷ 11 ∷ 17 ∷ [])
   pub choose : (r : Run) → Says choice.Refused (choose_of r).choice (19 ∷ 13 ∷ 14 ∷ [])
-  pub ahead_of : (x : Session) (s : State) → Says spare.Refused (ahead_for x s) (7 ∷ 19 ∷ [])
-  pub stand : (r : Run) → Says Refused (stood_of r).check (19 ∷ [])
-  pub slack_in : (s : Standing) → Says spare.Refused (slack_for s) (19 ∷ 9 ∷ [])
-  pub workahead : (r : Run) (i : ℕ) → Says spare.Refused (workahead_of r i).spare (19 ∷ 9 ∷ [])
-  pub slack : (r : Run) → Says spare.Refused (slack_of r).spare (19 ∷ 9 ∷ [])
-  pub start : (r : Run) → Says Refused (start_of r).check (19 ∷ 18 ∷ 13 ∷ 9 ∷ 15 ∷ [])
+  pub ahead_of : (x : Session) (s : State) → Says Err (ahead_for x s) (7 ∷ 19 ∷ [])
+  pub stand : (r : Run) → Says Err (stood_of r).check (19 ∷ [])
+  pub slack_in : (s : Standing) → Says Err (slack_for s) (19 ∷ 9 ∷ [])
+  pub workahead : (r : Run) (i : ℕ) → Says Err (workahead_of r i).spare (19 ∷ 9 ∷ [])
+  pub slack : (r : Run) → Says Err (slack_of r).spare (19 ∷ 9 ∷ [])
+  pub start : (r : Run) → Says Err (start_of r).check (19 ∷ 18 ∷ 13 ∷ 9 ∷ 15 ∷ [])
 
 -- Refused, every byte of a lent buffer is what it was.
 pub record Buffers : Type 0 where
-  pub writing : (x : Show) (note b : List ℕ) (w : Refusal) → (written_of x note (length b)).check ≡ Refused w → buffer_of x note b ≡ b
-  pub rereading : (x : Show) (note b : List ℕ) (w : Refusal) → (reread_of x note (length b)).check ≡ Refused w → buffer_of x note b ≡ b
-  pub copying : (f b : List ℕ) (w : Refusal) → (copied_of f (length b)).check ≡ Refused w → copy_of f b ≡ b
-  pub reporting : (f b : List ℕ) (r : Written) (x : List ℕ) → ReportIs f b r x → (w : Refusal) → r.check ≡ Refused w → x ≡ b
-  pub explaining : (f b : List ℕ) (r : Written) (x : List ℕ) → ExplainIs f b r x → (w : Refusal) → r.check ≡ Refused w → x ≡ b
+  pub writing : (x : Show) (note b : List ℕ) (w : Refusal) → (written_of x note (length b)).check ≡ Err w → buffer_of x note b ≡ b
+  pub rereading : (x : Show) (note b : List ℕ) (w : Refusal) → (reread_of x note (length b)).check ≡ Err w → buffer_of x note b ≡ b
+  pub copying : (f b : List ℕ) (w : Refusal) → (copied_of f (length b)).check ≡ Err w → copy_of f b ≡ b
+  pub reporting : (f b : List ℕ) (r : Written) (x : List ℕ) → ReportIs f b r x → (w : Refusal) → r.check ≡ Err w → x ≡ b
+  pub explaining : (f b : List ℕ) (r : Written) (x : List ℕ) → ExplainIs f b r x → (w : Refusal) → r.check ≡ Err w → x ≡ b
   -- a text that does not fit is not put, and the place that was given is answered
   pub putting : (b : List ℕ) (at : ℕ) (t : List ℕ) → length b < at + length t → (put_over b at t ≡ b) × (put_to b at t ≡ at)
 
 -- Refused, all beside number and place is zero or empty; a writer has written no byte.
 pub record Empty : Type 0 where
-  pub reading : (f : List ℕ) (w : Refusal) → (read_of f).check ≡ Refused w → read_of f ≡ record { check = Refused w; show = no_show; note = 0 }
-  pub note : (f : List ℕ) (w : Refusal) → (read_of f).check ≡ Refused w → note_of f ≡ []
-  pub writing : (x : Show) (note : List ℕ) (room : ℕ) (w : Refusal) → (written_of x note room).check ≡ Refused w → (written_of x note room).len ≡ 0
+  pub reading : (f : List ℕ) (w : Refusal) → (read_of f).check ≡ Err w → read_of f ≡ record { check = Err w; show = no_show; note = 0 }
+  pub note : (f : List ℕ) (w : Refusal) → (read_of f).check ≡ Err w → note_of f ≡ []
+  pub writing : (x : Show) (note : List ℕ) (room : ℕ) (w : Refusal) → (written_of x note room).check ≡ Err w → (written_of x note room).len ≡ 0
   pub rereading :
-      (x : Show) (note : List ℕ) (room : ℕ) (w : Refusal) → (reread_of x note room).check ≡ Refused w →
-      reread_of x note room ≡ record { check = Refused w; show = no_show; note = 0 }
-  pub copying : (f : List ℕ) (room : ℕ) (w : Refusal) → (copied_of f room).check ≡ Refused w → (copied_of f room).len ≡ 0
-  pub reporting : (f b : List ℕ) (r : Written) (x : List ℕ) → ReportIs f b r x → (w : Refusal) → r.check ≡ Refused w → r.len ≡ 0
-  pub explaining : (f b : List ℕ) (r : Written) (x : List ℕ) → ExplainIs f b r x → (w : Refusal) → r.check ≡ Refused w → r.len ≡ 0
-  pub deciding : (s : Show) (d : Decision) → DecisionIs s d → (w : Refusal) → d.verdict ≡ verdict.Refused w → d ≡ refused_for w
-  pub trying : (s : Show) (m : List ℕ) (t : Trial) → TrialIs s m t → (w : Refusal) → t.answer ≡ answer.Refused w → t ≡ untried_for w
-  pub opening : (s : Show) (o : Opened) → OpenIs s o → (w : Refusal) → o.check ≡ Refused w → o ≡ record { check = Refused w; run = no_run }
-  pub stand : (r : Run) (w : Refusal) → (stood_of r).check ≡ Refused w → stood_of r ≡ record { check = Refused w; standing = no_standing }
+      (x : Show) (note : List ℕ) (room : ℕ) (w : Refusal) → (reread_of x note room).check ≡ Err w →
+      reread_of x note room ≡ record { check = Err w; show = no_show; note = 0 }
+  pub copying : (f : List ℕ) (room : ℕ) (w : Refusal) → (copied_of f room).check ≡ Err w → (copied_of f room).len ≡ 0
+  pub reporting : (f b : List ℕ) (r : Written) (x : List ℕ) → ReportIs f b r x → (w : Refusal) → r.check ≡ Err w → r.len ≡ 0
+  pub explaining : (f b : List ℕ) (r : Written) (x : List ℕ) → ExplainIs f b r x → (w : Refusal) → r.check ≡ Err w → r.len ≡ 0
+  pub deciding : (s : Show) (d : Decision) → DecisionIs s d → (w : Refusal) → d.verdict ≡ Err w → d ≡ refused_for w
+  pub trying : (s : Show) (m : List ℕ) (t : Trial) → TrialIs s m t → (w : Refusal) → t.answer ≡ Err w → t ≡ untried_for w
+  pub opening : (s : Show) (o : Opened) → OpenIs s o → (w : Refusal) → o.check ≡ Err w → o ≡ record { check = Err w; run = no_run }
+  pub stand : (r : Run) (w : Refusal) → (stood_of r).check ≡ Err w → stood_of r ≡ record { check = Err w; standing = no_standing }

@@ -1,11 +1,10 @@
 -- The calculator: what it says of a show file, to the byte. docs/RULES.md, section 8. proofs/Reports.antt proves it.
-use Rattle.std.specs.Prelude.{ℕ, ◌^◌, ◌≤◌, ◌<◌, ◌≡◌, List, [], length, replicate}
+use Rattle.std.specs.Prelude.{ℕ, ◌^◌, ◌≤◌, ◌<◌, ◌≡◌, List, [], length, replicate, Some}
 use Rattle.showfile.specs.File.{file_of}
 use Rattle.text.specs.Ascii.{ascii}
 use Rattle.text.specs.Decimal.{decimal}
 use Rattle.text.specs.Numerals.{Numeral}
 use Rattle.report.specs.Answers.{TextIs, text_most}
-use Rattle.parse_numbers.specs.declared.Number.TheVariants.{Is}
 use Rattle.parse_numbers.specs.Numbers.{decimal_of}
 use Rattle.promises.specs.Numbers.{X, Z, clip, show_of}
 
@@ -22,6 +21,6 @@ pub record Reports : Type 0 where
   pub hundred : TextIs (file_of (show_of Z (replicate 10 clip)) []) (ascii "refused 8 0\n")
   -- a number is told by its digits, and a program that reads them has that number again
   pub numbers : (n : ℕ) → n < 2 ^ 64 → Numeral n (decimal n)
-  pub read_back : (n : ℕ) → n < 2 ^ 64 → decimal_of (decimal n) ≡ Is n
+  pub read_back : (n : ℕ) → n < 2 ^ 64 → decimal_of (decimal n) ≡ Some n
   -- no text has more bytes
   pub most : (f t : List ℕ) → TextIs f t → length t ≤ text_most

@@ -1,10 +1,11 @@
 -- Each show has one reason, and no two. Assumes nothing.
+use Rattle.std.specs.Prelude.{Ok, Err, Some, None, Result, Option}
 use Prim.Native.Nat.{ℕ}
 use mathlib.Core.Path.{◌≡◌, refl, sym, ◌∙◌, ap, ap₂}
 use mathlib.Core.Logic.{inl, inr}
+use Rattle.show.specs.Outcomes.{Check}
+use Rattle.show.specs.declared.refusal.Refusal.{Refusal}
 use Rattle.show.specs.declared.Show.{Show}
-use Rattle.show.specs.declared.refusal.Check.{Check}
-use Rattle.show.specs.declared.refusal.Check.TheVariants as check
 use Rattle.show.specs.Limits.{ShowWithin, buffer_most}
 use Rattle.show.specs.Checks.{show_check}
 use Rattle.show.proofs.Shows.{check_within}
@@ -28,7 +29,7 @@ module _ (s : Show) where
   wide : ShowWithin s → Accepted (load_of s) → Accepted (widened buffer_most (load_of s))
   wide w = wide_accepted (load_of s) buffer_most (limit s w)
 
-  pub reason_once : (p q : Reason) → ReasonIs s p → ReasonIs s q → p ≡ q
+  pub reason_once : (p q : (Result (Option Reason) Refusal)) → ReasonIs s p → ReasonIs s q → p ≡ q
   reason_once p q (none w a) (none v b) = refl
   reason_once p q (none w a) (overload v b) = absurd (b a.0 a.1.counted a.1.augmenting)
   reason_once p q (none w a) (beyond v b) = absurd (b.refused (wide w a))
@@ -47,31 +48,31 @@ module _ (s : Show) where
   reason_once p q (buffer i size w a) (none v b) = absurd (small_refuses w a b)
   reason_once p q (buffer i size w a) (overload v b) = absurd (b a.counts a.smallest.good.counted a.smallest.good.augmenting)
   reason_once p q (buffer i size w a) (beyond v b) = absurd (b.refused (a.counts, a.smallest.good))
-  reason_once p q (buffer i x w a) (buffer j y v b) = let e = too_small_once (load_of s) buffer_most a b in ap₂ reason.Buffer e.0 e.1
+  reason_once p q (buffer i x w a) (buffer j y v b) = let e = too_small_once (load_of s) buffer_most a b in ap₂ (λ (i size : ℕ). Ok (Some (reason.Buffer i size))) e.0 e.1
   reason_once p q (buffer i size w a) (outside r e) = within_outside s r w e
   reason_once p q (outside r e) (none v b) = within_outside s r v e
   reason_once p q (outside r e) (overload v b) = within_outside s r v e
   reason_once p q (outside r e) (beyond v b) = within_outside s r v e
   reason_once p q (outside r e) (buffer i size v b) = within_outside s r v e
   reason_once p q (outside r e) (outside t f) =
-      let g : check.Refused r ≡ check.Refused t = sym e ∙ f in let same : r ≡ t = cc in ap reason.Refused same
+      let g : Err r ≡ Err t = sym e ∙ f in let same : r ≡ t = cc in ap Err same
 
   -- There is one.
-  pub reason_given : (r : Reason) × ReasonIs s r
+  pub reason_given : (r : (Result (Option Reason) Refusal)) × ReasonIs s r
   reason_given = from (show_check s) refl
     where
-      within : ShowWithin s → (r : Reason) × ReasonIs s r
+      within : ShowWithin s → (r : (Result (Option Reason) Refusal)) × ReasonIs s r
       within w = elim (reason_some (load_of s) (show_sound s w) buffer_most) [
-        | inl a ↦ (reason.None, none w a)
+        | inl a ↦ (Ok None, none w a)
         | inr x ↦ elim x [
-          | inl a ↦ (reason.Overload, overload w a)
+          | inl a ↦ ((Ok (Some reason.Overload)), overload w a)
           | inr y ↦ elim y [
-            | inl a ↦ (reason.Beyond, beyond w a)
-            | inr a ↦ (reason.Buffer a.0 a.1.0, buffer a.0 a.1.0 w a.1.1)
+            | inl a ↦ ((Ok (Some reason.Beyond)), beyond w a)
+            | inr a ↦ (Ok (Some (reason.Buffer a.0 a.1.0)), buffer a.0 a.1.0 w a.1.1)
           ]
         ]
       ]
 
-      from : (c : Check) → show_check s ≡ c → (r : Reason) × ReasonIs s r
-      from check.Within e = within (check_within s e)
-      from (check.Refused r) e = (reason.Refused r, outside r e)
+      from : (c : Check) → show_check s ≡ c → (r : (Result (Option Reason) Refusal)) × ReasonIs s r
+      from (Ok tt) e = within (check_within s e)
+      from (Err r) e = (Err r, outside r e)

@@ -1,4 +1,5 @@
 -- What is answered of the smallest counts with the largest buffers. Assumes nothing.
+use Rattle.std.specs.Prelude.{Ok, Err, Some, None}
 use Prim.Native.Nat.{ℕ, ◌+◌, ◌≤◌, ◌<◌}
 use mathlib.Core.Path.{◌≡◌, refl, sym, ◌∙◌}
 use mathlib.Core.List.{List}
@@ -17,7 +18,6 @@ use Rattle.theory.proofs.Reasons.{own_smallest}
 use Rattle.theory.proofs.Shows.{show_sound}
 use Rattle.verdict.specs.Answers.{DecisionIs, set_of}
 use Rattle.verdict.specs.declared.Decision.{Decision}
-use Rattle.verdict.specs.declared.Verdict.TheVariants as verdict
 use Rattle.verdict.proofs.Sets.{row_smallest}
 use Rattle.verdict.proofs.Decisions.{accepted_refused, accepted_if, accepted_set}
 use Rattle.reason.specs.declared.Reason.TheVariants as reason
@@ -34,12 +34,12 @@ limit s w i l = (w.sessions i l).buffer.high
 -- ---- what the tests before say
 
 module _ (s : Show) (w : ShowWithin s) (x : Work) (e : x ≡ work_of (load_of s)) (g : WorkSmall x) where
-  pub overloads : 1 ≤ x.whole → ReasonIs s reason.Overload
+  pub overloads : 1 ≤ x.whole → ReasonIs s (Ok (Some reason.Overload))
   overloads h = overload w ((overloaded_exactly (load_of s) (show_sound s w)).0 (full_overloads (load_of s) x e g h))
 
   module _ (keeps : x.whole < 1) (d : Decision) (h : DecisionIs (widest_of s) d) where
     -- Refused with the largest buffers.
-    pub beyond_them : (r : Refusal) → d.verdict ≡ verdict.Refused r → ReasonIs s reason.Beyond
+    pub beyond_them : (r : Refusal) → d.verdict ≡ Err r → ReasonIs s (Ok (Some reason.Beyond))
     beyond_them r f =
         beyond w
         (record {
@@ -49,7 +49,7 @@ module _ (s : Show) (w : ShowWithin s) (x : Work) (e : x ≡ work_of (load_of s)
 
 -- Accepted with them, the counts are the smallest.
 pub wide_counts :
-    (s : Show) (d : Decision) → DecisionIs (widest_of s) d → d.verdict ≡ verdict.Accepted →
+    (s : Show) (d : Decision) → DecisionIs (widest_of s) d → d.verdict ≡ Ok tt →
     Smallest (widened buffer_most (load_of s)) (set_of d.counts)
 wide_counts s d h e =
     let a = accepted_set (widest_of s) d h e in
@@ -78,13 +78,13 @@ module _ (s : Show) (w : ShowWithin s) (counts : List ℕ) (m : Smallest (widene
   -- The first that does not is the reason ..
   pub fit_broken :
       i < s.playing → ((load_of s).stream i).buffer < needed (load_of s) i (set_of counts i) →
-      ReasonIs s (reason.Buffer i (needed (load_of s) i (set_of counts i)))
+      ReasonIs s (Ok (Some (reason.Buffer i (needed (load_of s) i (set_of counts i)))))
   fit_broken l g =
       buffer i _ w
       (record { counts = set_of counts; smallest = m; session = l; exact = refl; short = g; lowest = h.fits })
 
   -- .. and where all do, there is none.
-  pub fit_ended : s.playing ≤ i → ReasonIs s reason.None
+  pub fit_ended : s.playing ≤ i → ReasonIs s (Ok None)
   fit_ended l =
       none w
       (set_of counts, (own_smallest (load_of s) buffer_most (limit s w) (set_of counts) m (λ j b. h.fits j (let a = h.inside in omega arith))).good)

@@ -1,11 +1,12 @@
 -- Nothing looks at unused places: shows that agree below their counts have one reason and one load. Assumes nothing.
+use Rattle.std.specs.Prelude.{Ok, Err, Result, Option}
 use Prim.Native.Nat.{ℕ, ◌<◌}
 use mathlib.Core.Path.{◌≡◌, refl, sym, ◌∙◌, ap}
 use native.Mathlib.Omega.{arith}
 use native.Mathlib.Nat.{le_antisymm, le_refl}
+use Rattle.show.specs.Outcomes.{Check}
+use Rattle.show.specs.declared.refusal.Refusal.{Refusal}
 use Rattle.show.specs.declared.Show.{Show}
-use Rattle.show.specs.declared.refusal.Check.{Check}
-use Rattle.show.specs.declared.refusal.Check.TheVariants as check
 use Rattle.show.specs.Limits.{ShowWithin, Alike, buffer_most}
 use Rattle.show.specs.Checks.{show_check}
 use Rattle.show.proofs.Shows.{check_within, alike_check}
@@ -17,7 +18,6 @@ use Rattle.theory.proofs.Lighter.{lighter_augmenting, lighter_good, lighter_acce
 use Rattle.theory.proofs.Shows.{alike_back, alike_eased, eased_lighter, tenths_lighter}
 use Rattle.verdict.proofs.Unused.{within_alike}
 use Rattle.reason.specs.declared.Reason.{Reason}
-use Rattle.reason.specs.declared.Loaded.TheVariants as loaded
 use Rattle.reason.specs.Answers.{ReasonIs, none, overload, beyond, buffer, outside, loaded_of}
 use Rattle.reason.proofs.Answers.{load_refused, load_told}
 
@@ -77,7 +77,7 @@ module _ (s t : Show) (a : Alike s t) where
   lighter_from : ShowWithin s → Lighter (load_of t) (load_of s) (λ i. i)
   lighter_from w = eased_lighter t s (alike_eased t s (alike_back s t a) (within_alike s t a w))
 
-  pub alike_reason : (r : Reason) → ReasonIs s r → ReasonIs t r
+  pub alike_reason : (r : (Result (Option Reason) Refusal)) → ReasonIs s r → ReasonIs t r
   alike_reason r (none w x) = none (within_alike s t a w) (lighter_accepted (load_of t) (load_of s) (λ i. i) (lighter_from w) x)
   alike_reason r (overload w x) = overload (within_alike s t a w) (never_same (load_of s) (load_of t) (lighter_to w) (lighter_from w) x)
   alike_reason r (beyond w x) =
@@ -94,9 +94,9 @@ pub alike_load : (s t : Show) → Alike s t → loaded_of s ≡ loaded_of t
 alike_load s t a = by (show_check s) refl
   where
     by : (c : Check) → show_check s ≡ c → loaded_of s ≡ loaded_of t
-    by (check.Refused v) e = load_refused s v e ∙ sym (load_refused t v (sym (alike_check s t a) ∙ e))
-    by check.Within e =
+    by (Err v) e = load_refused s v e ∙ sym (load_refused t v (sym (alike_check s t a) ∙ e))
+    by (Ok tt) e =
         let w = check_within s e in
         let x = tenths_lighter s t (λ i. i) (eased (alike_eased s t a w)) in
         let y = tenths_lighter t s (λ i. i) (eased (alike_eased t s (alike_back s t a) (within_alike s t a w))) in
-        load_told s e ∙ ap loaded.Tenths (le_antisymm x y) ∙ sym (load_told t (sym (alike_check s t a) ∙ e))
+        load_told s e ∙ ap Ok (le_antisymm x y) ∙ sym (load_told t (sym (alike_check s t a) ∙ e))

@@ -13,9 +13,8 @@ ghost use Rattle.reason.specs.Answers.{ReasonIs, loaded_of};
 ghost use Rattle.reason.specs.Steps.{widest_of};
 
 use crate::work::weigh;
-use show::refusal::{Check, Refusal};
+use show::refusal::Refusal;
 use show::{Session, Show};
-use verdict::Verdict;
 
 // None of an accepted show. Too small a buffer comes with the lowest session that has one, and with the size that it needs.
 #[derive(Clone, Copy)]
@@ -27,30 +26,23 @@ pub enum Reason {
     Refused(Refusal),
 }
 
-// How much of its time the drive would have to work, in tenths of a per cent and rounded down; or why there is no answer.
-#[derive(Clone, Copy)]
-pub enum Loaded {
-    Tenths(u64),
-    Refused(Refusal),
-}
-
 // Why a show is refused: 2, 5, 6, 7, then the reason for 8, or none.
-pub fn why(show: Show) -> Reason
+pub fn why(show: Show) -> Result<Option<Reason>, Refusal>
     ensures { ReasonIs show result }
 {
     let check = show.check();
-    if let Check::Refused(why) = check {
-        return Reason::Refused(why);
+    if let Err(why) = check {
+        return Err(why);
     }
     let work = weigh(show);
     if 1 <= work.whole {
-        return Reason::Overload;
+        return Ok(Some(Reason::Overload));
     }
     let decision = verdict::decide(widest(show));
     let verdict = decision.verdict;
     let counts = decision.counts;
-    let Verdict::Accepted = verdict else {
-        return Reason::Beyond;
+    let Ok(()) = verdict else {
+        return Ok(Some(Reason::Beyond));
     };
     lowest_short(show, counts)
 }
@@ -83,7 +75,7 @@ fn widest(show: Show) -> Show
 }
 
 // The first session whose count does not fit its buffer.
-fn lowest_short(show: Show, counts: [u32; 16]) -> Reason
+fn lowest_short(show: Show, counts: [u32; 16]) -> Result<Option<Reason>, Refusal>
     requires show_within { ShowWithin show }
     requires smallest { Smallest (widened buffer_most (load_of show)) (set_of counts) }
     ensures { ReasonIs show result }
@@ -95,23 +87,23 @@ fn lowest_short(show: Show, counts: [u32; 16]) -> Reason
         let blocks = (counts[i] as u64 + 1) * block;
         let size = blocks + session.cushion as u64;
         if (session.buffer as u64) < size {
-            return Reason::Buffer { session: i, size };
+            return Ok(Some(Reason::Buffer { session: i, size }));
         }
         i += 1;
     }
-    Reason::None
+    Ok(None)
 }
 
 // The load of the drive: 2, 5, 6, 7, then the tenths of a per cent.
-pub fn load(show: Show) -> Loaded
+pub fn load(show: Show) -> Result<u64, Refusal>
     ensures { result ≡ loaded_of show }
 {
     let check = show.check();
-    if let Check::Refused(why) = check {
-        return Loaded::Refused(why);
+    if let Err(why) = check {
+        return Err(why);
     }
     let work = weigh(show);
     let whole = work.whole * 1_000;
     let part = work.part * 1_000 / work.full;
-    Loaded::Tenths(whole + part)
+    Ok(whole + part)
 }

@@ -4,7 +4,7 @@ use crate::given::BYTES;
 use crate::output::said;
 use crate::shows::numbers_of;
 use show::Show;
-use show::refusal::{Check, Told};
+use show::refusal::{Refusal, Told};
 use text_forms::hex::put_hex;
 use text_forms::put_form;
 use workahead::magnitude;
@@ -50,8 +50,8 @@ pub(crate) fn tell_refused(rt: &impl Print, told: Told, faults: u64) -> bool {
 }
 
 // The number of a refusal and its place; zeros for none.
-pub(crate) fn told_of(check: Check) -> Told {
-    let Check::Refused(why) = check else {
+pub(crate) fn told_of(check: Result<(), Refusal>) -> Told {
+    let Err(why) = check else {
         return Told {
             number: 0,
             place: 0,

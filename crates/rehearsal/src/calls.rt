@@ -6,9 +6,8 @@ use crate::forms::{IDLE, OK, READ};
 use run::{Moved, Run};
 use scheduler::{Choice, Chosen};
 use show::Show;
-use show::refusal::Told;
+use show::refusal::{Refusal, Told};
 use spare::Spared;
-use workahead::Spare;
 
 // What a call answers, whether there is a run after it, and the run.
 #[derive(Clone, Copy)]
@@ -118,9 +117,9 @@ fn spared(s: Spared) -> Called {
     }
 }
 
-fn spare_of(spare: Spare) -> Said {
+fn spare_of(spare: Result<i64, Refusal>) -> Said {
     match spare {
-        Spare::Time(t) => value_said(t),
-        Spare::Refused(why) => refused_as(why.told()),
+        Ok(t) => value_said(t),
+        Err(why) => refused_as(why.told()),
     }
 }

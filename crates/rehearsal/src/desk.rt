@@ -10,7 +10,7 @@ use crate::shows::show_after;
 use parse::{part, same};
 use run::Run;
 use show::Show;
-use show::refusal::{Check, Told};
+use show::refusal::Told;
 
 // A longer line is malformed.
 const LINE_MOST: usize = 65_535;
@@ -48,7 +48,7 @@ impl Desk {
             lines: 0,
             lost: false,
             has: nothing(false, false),
-            refused: told_of(Check::Within),
+            refused: told_of(Ok(())),
             show,
             run,
             kept: run,

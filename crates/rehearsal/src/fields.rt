@@ -3,7 +3,7 @@ ghost use Rattle.std.specs.Prelude.{◌<◌};
 
 use crate::given::low;
 use crate::shows::{numbers_of, show_of};
-use run::{Run, Underway};
+use run::Run;
 use state::State;
 
 // The first fields of the show, of its layouts, of its sessions, and of the run's lists.
@@ -40,11 +40,11 @@ fn with_cycle(run: Run, field: usize, value: u64) -> Run {
 }
 
 // What is no number of 32 bits is -1, and means nothing.
-fn underway_of(value: u64) -> Underway {
+fn underway_of(value: u64) -> Option<usize> {
     if 4_294_967_295 < value {
-        return Underway::Nothing;
+        return None;
     }
-    Underway::Read(value as usize)
+    Some(value as usize)
 }
 
 // The place of a field of the show among its hundred numbers.

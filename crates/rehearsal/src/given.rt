@@ -3,7 +3,7 @@ ghost use Rattle.std.specs.Prelude.{◌≤◌, length};
 
 use crate::shows::show_of;
 use parse::{find, part, parts};
-use parse_numbers::{Number, decimal, unhex};
+use parse_numbers::{decimal, unhex};
 use show::{Session, Show};
 use state::State;
 
@@ -17,7 +17,7 @@ const NO_WORD: u64 = 4_294_967_296;
 
 pub(crate) fn is_hex(text: &[u8]) -> bool {
     let mut none = [0u8; 1];
-    let Number::Is(_) = unhex(text, &mut none) else {
+    let Some(_) = unhex(text, &mut none) else {
         return false;
     };
     true
@@ -31,7 +31,7 @@ pub(crate) fn is_note(text: &[u8]) -> bool {
 pub(crate) fn bytes_of(text: &[u8], out: &mut [u8]) -> usize
     ensures { result ≤ length out.new }
 {
-    let Number::Is(n) = unhex(text, out) else {
+    let Some(n) = unhex(text, out) else {
         return 0;
     };
     if out.len() as u64 <= n {
@@ -43,7 +43,7 @@ pub(crate) fn bytes_of(text: &[u8], out: &mut [u8]) -> usize
 // ---- numbers
 
 pub(crate) fn is_number(text: &[u8], most: u64) -> bool {
-    let Number::Is(n) = decimal(text) else {
+    let Some(n) = decimal(text) else {
         return false;
     };
     n <= most
@@ -51,7 +51,7 @@ pub(crate) fn is_number(text: &[u8], most: u64) -> bool {
 
 // Where the text is no number, what is none of 32 bits.
 fn number_of(text: &[u8]) -> u64 {
-    let Number::Is(n) = decimal(text) else {
+    let Some(n) = decimal(text) else {
         return NO_WORD;
     };
     n

@@ -1,23 +1,16 @@
 // Questions, which change nothing: what is told of their answers.
-use crate::answers::{
-    BESIDE, Said, answer_of, end, refused_as, said_as, tell_answer, tell_refused, told_of, unless,
-    zeros_from,
-};
+use crate::answers::{BESIDE, Said, answer_of, end, refused_as, said_as, tell_answer, tell_refused, told_of, unless, zeros_from};
 use crate::asked::{Asked, Word};
 use crate::files::{tell_file, tell_written};
-use crate::forms::{
-    ACCEPTED, BEYOND, BUFFER, FAILS, HOLDS, NONE, OVERLOAD, SPACE, STATE, VALUE, put_lists,
-    put_said, tell,
-};
+use crate::forms::{ACCEPTED, BEYOND, BUFFER, FAILS, HOLDS, NONE, OVERLOAD, SPACE, STATE, VALUE, put_lists, put_said, tell};
 use crate::given::{Taking, counts_of, low, taking_of};
 use crate::output::said;
 use crate::texts::{Call, tell_text};
-use cost::worst::{Worst, worst_time};
+use cost::worst::worst_time;
 use parse::part;
-use reason::{Loaded, Reason};
+use reason::Reason;
 use show::Show;
-use show::refusal::{Check, Told};
-use verdict::Verdict;
+use show::refusal::{Refusal, Told};
 
 // ---- about the show in memory
 
@@ -48,27 +41,27 @@ fn short_answer(asked: Asked, show: Show) -> Said {
     }
 }
 
-fn reason_of(why: Reason) -> Said {
+fn reason_of(why: Result<Option<Reason>, Refusal>) -> Said {
     match why {
-        Reason::None => said_as(NONE, 0, 0),
-        Reason::Overload => said_as(OVERLOAD, 0, 0),
-        Reason::Beyond => said_as(BEYOND, 0, 0),
-        Reason::Buffer { session, size } => said_as(BUFFER, session as u64, size),
-        Reason::Refused(w) => refused_as(w.told()),
+        Ok(None) => said_as(NONE, 0, 0),
+        Ok(Some(Reason::Overload)) => said_as(OVERLOAD, 0, 0),
+        Ok(Some(Reason::Beyond)) => said_as(BEYOND, 0, 0),
+        Ok(Some(Reason::Buffer { session, size })) => said_as(BUFFER, session as u64, size),
+        Err(w) => refused_as(w.told()),
     }
 }
 
-fn load_of(load: Loaded) -> Said {
+fn load_of(load: Result<u64, Refusal>) -> Said {
     match load {
-        Loaded::Tenths(n) => said_as(VALUE, n, 0),
-        Loaded::Refused(w) => refused_as(w.told()),
+        Ok(n) => said_as(VALUE, n, 0),
+        Err(w) => refused_as(w.told()),
     }
 }
 
-fn worst_of(worst: Worst) -> Said {
+fn worst_of(worst: Result<u64, Refusal>) -> Said {
     match worst {
-        Worst::Takes(t) => said_as(VALUE, t, 0),
-        Worst::Refused(w) => refused_as(w.told()),
+        Ok(t) => said_as(VALUE, t, 0),
+        Err(w) => refused_as(w.told()),
     }
 }
 
@@ -133,10 +126,10 @@ fn decided(show: Show) -> Table {
     }
 }
 
-fn told_in(verdict: Verdict) -> Told {
+fn told_in(verdict: Result<(), Refusal>) -> Told {
     match verdict {
-        Verdict::Accepted => told_of(Check::Within),
-        Verdict::Refused(why) => why.told(),
+        Ok(()) => told_of(Ok(())),
+        Err(why) => why.told(),
     }
 }
 
@@ -153,16 +146,16 @@ fn tried(show: Show, counts: [u32; 16]) -> Table {
     }
 }
 
-fn told_on(answer: trial::Answer) -> Told {
+fn told_on(answer: Result<bool, Refusal>) -> Told {
     match answer {
-        trial::Answer::Refused(why) => why.told(),
-        _ => told_of(Check::Within),
+        Err(why) => why.told(),
+        _ => told_of(Ok(())),
     }
 }
 
-fn form_on(answer: trial::Answer) -> usize {
+fn form_on(answer: Result<bool, Refusal>) -> usize {
     match answer {
-        trial::Answer::Holds => HOLDS,
+        Ok(true) => HOLDS,
         _ => FAILS,
     }
 }

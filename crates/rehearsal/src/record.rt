@@ -1,11 +1,9 @@
 // The line that tells the whole run record.
 ghost use Rattle.std.specs.Prelude.{◌<◌};
 
-use crate::forms::{
-    CELLS, CYCLE, NAMES, NEWLINE, NO_CELLS, NOTHING, at_most, either, put_lists, put_said,
-};
+use crate::forms::{CELLS, CYCLE, NAMES, NEWLINE, NO_CELLS, NOTHING, at_most, either, put_lists, put_said};
 use crate::output::said;
-use run::{Run, Underway};
+use run::Run;
 
 const PLACES: usize = 16;
 
@@ -47,15 +45,15 @@ struct Under {
     session: u64,
 }
 
-fn under_of(underway: Underway) -> Under
+fn under_of(underway: Option<usize>) -> Under
     ensures { result.form < 2 }
 {
     match underway {
-        Underway::Nothing => Under {
+        None => Under {
             form: 0,
             session: 0,
         },
-        Underway::Read(session) => Under {
+        Some(session) => Under {
             form: 1,
             session: session as u64,
         },

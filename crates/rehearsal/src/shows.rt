@@ -4,7 +4,7 @@ ghost use Rattle.std.specs.Prelude.{◌<◌};
 use crate::answers::told_of;
 use crate::asked::Word;
 use crate::given::{BYTES, bytes_of, low, memory_of};
-use show::refusal::{Check, Told};
+use show::refusal::Told;
 use show::{Layout, Session, Show};
 use showfile::Reading;
 
@@ -21,7 +21,7 @@ pub(crate) fn show_after(word: Word, operand: &[u8], show: Show, refused: Told) 
         Word::Show => file_of(operand),
         Word::Memory => Shown {
             show: memory_of(operand),
-            refused: told_of(Check::Within),
+            refused: told_of(Ok(())),
         },
         Word::Junk => Shown {
             show: junked(show),

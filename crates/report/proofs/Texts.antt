@@ -1,4 +1,5 @@
 -- Laws of the calculator's text: what its lines are made of, that a file has one text, and the text of what was decided. Assumes nothing.
+use Rattle.std.specs.Prelude.{Ok, Err}
 use mathlib.Core.Path.{◌≡◌, refl, sym, ap, ap₂, ◌∙◌, subst}
 use mathlib.Core.List.{List, [], ◌++◌}
 use Prim.Native.Nat.{ℕ, zero, suc, ◌+◌, ◌≤◌, ◌<◌}
@@ -9,7 +10,6 @@ use lib.ListN.{get_or}
 use Rattle.show.specs.declared.Show.{Show}
 use Rattle.show.specs.declared.refusal.Refusal.{Refusal}
 use Rattle.show.specs.declared.refusal.Refusal.TheVariants.{NoSet}
-use Rattle.show.specs.declared.refusal.Check.TheVariants.{Within, Refused}
 use Rattle.show.proofs.Checks.{within_refused}
 use Rattle.showfile.specs.declared.Reading.{Reading}
 use Rattle.showfile.specs.Answers.{read_of}
@@ -20,7 +20,6 @@ use Rattle.theory.specs.Counts.{Load, round_time, needed}
 use Rattle.theory.specs.Shows.{load_of}
 use Rattle.theory.proofs.Rounds.{round_same, smallest_once}
 use Rattle.verdict.specs.declared.Decision.{Decision}
-use Rattle.verdict.specs.declared.Verdict.TheVariants as verdict
 use Rattle.verdict.specs.Answers.{DecisionIs, accepted, no_set, outside, row, set_of}
 use Rattle.verdict.proofs.Sets.{set_of_row, row_smallest, times_same}
 use Rattle.verdict.proofs.Once.{within_outside}
@@ -70,7 +69,7 @@ text_once f t u (eight e none) (unread w g) = within_refused (sym e ∙ g)
 text_once f t u (unread v e) (granted o g r) = within_refused (sym g ∙ e)
 text_once f t u (unread v e) (eight g nor) = within_refused (sym g ∙ e)
 text_once f t u (unread v e) (unread w g) =
-    let h : Refused v ≡ Refused w = sym e ∙ g in let same : v ≡ w = cc in ap refused_text same
+    let h : Err v ≡ Err w = sym e ∙ g in let same : v ≡ w = cc in ap refused_text same
 
 -- ---- the text of what was decided
 
@@ -80,8 +79,8 @@ pub record ToldYes (f : List ℕ) (s : Show) (d : Decision) : Type 0 where
   pub timed : Timed s d.counts d.times
   pub round : d.round ≡ round_time (load_of s) (set_of d.counts)
 
-module _ (f : List ℕ) (e : (read_of f).check ≡ Within) where
-  decided_yes : (d : Decision) → DecisionIs (read_of f).show d → d.verdict ≡ verdict.Accepted → ToldYes f (read_of f).show d
+module _ (f : List ℕ) (e : (read_of f).check ≡ Ok tt) where
+  decided_yes : (d : Decision) → DecisionIs (read_of f).show d → d.verdict ≡ Ok tt → ToldYes f (read_of f).show d
   decided_yes d (accepted m w s) g =
       let back : (i : ℕ) → i < (load_in f).playing → m i ≡ set_of (row (load_in f) m) i = (λ i h. sym (set_of_row (load_in f) m i h)) in
       record {
@@ -92,26 +91,26 @@ module _ (f : List ℕ) (e : (read_of f).check ≡ Within) where
   decided_yes d (no_set w none) g = accepted_refused g
   decided_yes d (outside w out) g = accepted_refused g
 
-  decided_no : (w : Refusal) (d : Decision) → DecisionIs (read_of f).show d → d.verdict ≡ verdict.Refused w → TextIs f (refused_text w)
+  decided_no : (w : Refusal) (d : Decision) → DecisionIs (read_of f).show d → d.verdict ≡ Err w → TextIs f (refused_text w)
   decided_no w d (accepted m v s) g = accepted_refused (sym g)
   decided_no w d (no_set v none) g =
-      let h : verdict.Refused NoSet ≡ verdict.Refused w = g in
+      let h : Err NoSet ≡ Err w = g in
       let same : NoSet ≡ w = cc in
       subst (λ (x : Refusal). TextIs f (refused_text x)) same (eight e none)
   decided_no w d (outside v out) g = within_outside (read_of f).show v (read_within f e) out
 
 -- The same of what a call read.
 module _ (f : List ℕ) (g : Reading) (r : g ≡ read_of f) where
-  pub told_unread : (w : Refusal) → g.check ≡ Refused w → TextIs f (refused_text w)
+  pub told_unread : (w : Refusal) → g.check ≡ Err w → TextIs f (refused_text w)
   told_unread w h = unread w (ap (λ (x : Reading). x.check) (sym r) ∙ h)
 
-  pub told_yes : g.check ≡ Within → (d : Decision) → DecisionIs g.show d → d.verdict ≡ verdict.Accepted → ToldYes f g.show d
+  pub told_yes : g.check ≡ Ok tt → (d : Decision) → DecisionIs g.show d → d.verdict ≡ Ok tt → ToldYes f g.show d
   told_yes e d =
-      subst (λ (x : Reading). x.check ≡ Within → DecisionIs x.show d → d.verdict ≡ verdict.Accepted → ToldYes f x.show d) (sym r)
+      subst (λ (x : Reading). x.check ≡ Ok tt → DecisionIs x.show d → d.verdict ≡ Ok tt → ToldYes f x.show d) (sym r)
       (λ h. decided_yes f h d) e
 
   pub told_no :
-      g.check ≡ Within → (d : Decision) (w : Refusal) → DecisionIs g.show d → d.verdict ≡ verdict.Refused w → TextIs f (refused_text w)
+      g.check ≡ Ok tt → (d : Decision) (w : Refusal) → DecisionIs g.show d → d.verdict ≡ Err w → TextIs f (refused_text w)
   told_no e d w =
-      subst (λ (x : Reading). x.check ≡ Within → DecisionIs x.show d → d.verdict ≡ verdict.Refused w → TextIs f (refused_text w)) (sym r)
+      subst (λ (x : Reading). x.check ≡ Ok tt → DecisionIs x.show d → d.verdict ≡ Err w → TextIs f (refused_text w)) (sym r)
       (λ h. decided_no f h w d) e

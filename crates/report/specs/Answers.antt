@@ -1,8 +1,7 @@
 -- What a file is answered, and what the lent buffer then holds: docs/RULES.md, section 8.
-use Rattle.std.specs.Prelude.{ℕ, ◌≡◌, List}
+use Rattle.std.specs.Prelude.{ℕ, ◌≡◌, List, Ok, Err}
 use Rattle.show.specs.declared.refusal.Refusal.{Refusal}
 use Rattle.show.specs.declared.refusal.Refusal.TheVariants.{NoSet}
-use Rattle.show.specs.declared.refusal.Check.TheVariants.{Within, Refused}
 use Rattle.showfile.specs.declared.Written.{Written}
 use Rattle.showfile.specs.Answers.{read_of}
 use Rattle.text.specs.Lines.{refused_text}
@@ -17,9 +16,9 @@ load_in f = load_of (read_of f).show
 
 -- The text for a file: the smallest set of its show; 8 where there is none; 1 to 7 where it is no show's file.
 pub data TextIs (f : List ℕ) : List ℕ → Type 0 where
-  granted : (m : ℕ → ℕ) → (read_of f).check ≡ Within → Smallest (load_in f) m → TextIs f (accepted_text (load_in f) m)
-  eight : (read_of f).check ≡ Within → (Accepted (load_in f) → ⊥) → TextIs f (refused_text NoSet)
-  unread : (w : Refusal) → (read_of f).check ≡ Refused w → TextIs f (refused_text w)
+  granted : (m : ℕ → ℕ) → (read_of f).check ≡ Ok tt → Smallest (load_in f) m → TextIs f (accepted_text (load_in f) m)
+  eight : (read_of f).check ≡ Ok tt → (Accepted (load_in f) → ⊥) → TextIs f (refused_text NoSet)
+  unread : (w : Refusal) → (read_of f).check ≡ Err w → TextIs f (refused_text w)
 
 -- no text has more bytes than this
 abbrev pub text_most : ℕ

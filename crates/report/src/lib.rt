@@ -13,9 +13,9 @@ ghost use Rattle.report.specs.Answers.{TextIs, ReportIs, text_most};
 ghost use Rattle.report.specs.Steps.{Timed};
 
 use show::Show;
-use show::refusal::{Check, Refusal};
+use show::refusal::Refusal;
 use showfile::Written;
-use verdict::{Decision, Verdict};
+use verdict::Decision;
 
 // No text is longer.
 pub const TEXT_MOST: usize = 594;
@@ -116,13 +116,13 @@ fn put_text(file: &[u8], out: &mut [u8]) -> usize
 {
     let got = showfile::read(file);
     let check = got.check;
-    if let Check::Refused(why) = check {
+    if let Err(why) = check {
         return put_refusal(out, why);
     }
     let show = got.show;
     let decision = verdict::decide(show);
     let verdict = decision.verdict;
-    if let Verdict::Refused(why) = verdict {
+    if let Err(why) = verdict {
         return put_refusal(out, why);
     }
     put_accepted(out, show, decision)
@@ -135,13 +135,13 @@ pub fn report(file: &[u8], buffer: &mut [u8]) -> Written
 {
     if buffer.len() < TEXT_MOST {
         return Written {
-            check: Check::Refused(Refusal::BufferShort),
+            check: Err(Refusal::BufferShort),
             len: 0,
         };
     }
     let len = put_text(file, buffer);
     Written {
-        check: Check::Within,
+        check: Ok(()),
         len,
     }
 }

@@ -1,13 +1,14 @@
 -- A run that is opened is sound, and is of the show given. Assumes nothing.
+use Rattle.std.specs.Prelude.{Ok, Err}
 use Prim.Native.Nat.{ℕ, ◌≤◌, ◌<◌}
 use mathlib.Core.Path.{◌≡◌, refl, sym, ap, subst, ◌∙◌}
 use mathlib.Core.Bool.{Bool}
 use mathlib.Core.List.{List}
 use native.Mathlib.Omega.{arith}
 use lib.ListN.{length, get_or, length-append, length-replicate}
+use Rattle.show.specs.Outcomes.{Check}
 use Rattle.show.specs.declared.Session.{Session}
 use Rattle.show.specs.declared.Show.{Show}
-use Rattle.show.specs.declared.refusal.Check.TheVariants.{Within}
 use Rattle.show.specs.Limits.{Between, ShowWithin, session_at}
 use Rattle.show.specs.Lists.{listed, padded}
 use Rattle.show.proofs.Checks.{within_refused}
@@ -16,8 +17,6 @@ use Rattle.theory.specs.Counts.{Good, Smallest}
 use Rattle.theory.specs.Shows.{load_of}
 use Rattle.theory.proofs.Rounds.{good_same}
 use Rattle.verdict.specs.declared.Decision.{Decision}
-use Rattle.verdict.specs.declared.Verdict.{Verdict}
-use Rattle.verdict.specs.declared.Verdict.TheVariants as verdict
 use Rattle.verdict.specs.Answers.{row, set_of}
 use Rattle.verdict.proofs.Sets.{set_of_row}
 use Rattle.verdict.proofs.Decisions.{accepted_set}
@@ -105,11 +104,11 @@ pub record Begins (s : Show) (r : Run) : Type 0 where
   pub smallest : Smallest (load_of s) set
   pub first : r ≡ first_run s (row (load_of s) set)
 
-granted : (s : Show) (counts : List ℕ) (v : Verdict) → (opened_by s counts v).check ≡ Within → v ≡ verdict.Accepted
-granted s counts verdict.Accepted e = refl
-granted s counts (verdict.Refused w) e = within_refused (sym e)
+granted : (s : Show) (counts : List ℕ) (v : Check) → (opened_by s counts v).check ≡ Ok tt → v ≡ Ok tt
+granted s counts (Ok tt) e = refl
+granted s counts (Err w) e = within_refused (sym e)
 
-module _ (s : Show) (o : Opened) (h : OpenIs s o) (e : o.check ≡ Within) where
+module _ (s : Show) (o : Opened) (h : OpenIs s o) (e : o.check ≡ Ok tt) where
   pub opened_begins : Begins s o.run
   opened_begins =
       let d = h.decision in

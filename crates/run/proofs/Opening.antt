@@ -1,11 +1,10 @@
 -- Opening: what it answers by what is decided, and that two answers are one. Assumes nothing.
+use Rattle.std.specs.Prelude.{Ok, Err}
 use Prim.Native.Nat.{◌≤◌}
 use mathlib.Core.Path.{◌≡◌, sym, ◌∙◌, ap}
 use Rattle.show.specs.declared.Show.{Show}
 use Rattle.show.specs.declared.refusal.Refusal.{Refusal}
-use Rattle.show.specs.declared.refusal.Check.TheVariants.{Within, Refused}
 use Rattle.verdict.specs.declared.Decision.{Decision}
-use Rattle.verdict.specs.declared.Verdict.TheVariants as verdict
 use Rattle.verdict.specs.Answers.{DecisionIs}
 use Rattle.verdict.proofs.Once.{decision_once}
 use Rattle.verdict.proofs.Decisions.{accepted_set}
@@ -21,13 +20,13 @@ open_once s a b p q =
     ∙ sym q.answers
 
 module _ (s : Show) (d : Decision) (h : DecisionIs s d) where
-  pub open_refused : (w : Refusal) (r : Run) → d.verdict ≡ verdict.Refused w → r ≡ no_run → OpenIs s (record { check = Refused w; run = r })
+  pub open_refused : (w : Refusal) (r : Run) → d.verdict ≡ Err w → r ≡ no_run → OpenIs s (record { check = Err w; run = r })
   open_refused w r e f =
-      record { decision = d; decides = h; answers = (λ i. record { check = Refused w; run = f i }) ∙ sym (ap (opened_by s d.counts) e) }
+      record { decision = d; decides = h; answers = (λ i. record { check = Err w; run = f i }) ∙ sym (ap (opened_by s d.counts) e) }
 
-  pub open_granted : (r : Run) → d.verdict ≡ verdict.Accepted → r ≡ first_run s d.counts → OpenIs s (record { check = Within; run = r })
+  pub open_granted : (r : Run) → d.verdict ≡ Ok tt → r ≡ first_run s d.counts → OpenIs s (record { check = Ok tt; run = r })
   open_granted r e f =
-      record { decision = d; decides = h; answers = (λ i. record { check = Within; run = f i }) ∙ sym (ap (opened_by s d.counts) e) }
+      record { decision = d; decides = h; answers = (λ i. record { check = Ok tt; run = f i }) ∙ sym (ap (opened_by s d.counts) e) }
 
-  pub open_few : d.verdict ≡ verdict.Accepted → s.playing ≤ 16
+  pub open_few : d.verdict ≡ Ok tt → s.playing ≤ 16
   open_few e = (accepted_set s d h e).within.counts.sessions

@@ -1,4 +1,5 @@
 -- What no step changes: the show, the counts, the order, the start, and the places that do not play. Assumes nothing.
+use Rattle.std.specs.Prelude.{Option}
 use Prim.Native.Nat.{ℕ, ◌≤◌, ◌<◌}
 use mathlib.Core.Path.{◌≡◌, refl, sym, subst, ◌∙◌}
 use mathlib.Core.Bool.{Bool, true, false}
@@ -9,7 +10,6 @@ use lib.ListN.{length, get_or, set, length-set}
 use lib.Seq.{get_or-set_other}
 use Rattle.show.specs.declared.Show.{Show}
 use Rattle.state.specs.declared.State.{State}
-use Rattle.run.specs.declared.Underway.{Underway}
 use Rattle.run.specs.declared.Run.{Run}
 use Rattle.state.specs.State.{no_state}
 use Rattle.run.specs.Run.{playing, state_at, with_states, with_cycle}
@@ -44,7 +44,7 @@ module _ (r : Run) where
       states_kept _ (λ j h. get_or-set_other r.states i j t no_state (λ e. let f : ⊥ = omega arith in f)) (length-set r.states i t)
 
   -- another moment of the cycle
-  cycle_kept : (q : Run) (place left : ℕ) (u : Underway) → Kept r q → Kept r (with_cycle q place left u)
+  cycle_kept : (q : Run) (place left : ℕ) (u : (Option ℕ)) → Kept r q → Kept r (with_cycle q place left u)
   cycle_kept q place left u k =
       record {
         show = k.show;

@@ -1,4 +1,5 @@
 -- A step on a sound run makes a sound run. Assumes nothing.
+use Rattle.std.specs.Prelude.{Some, None, Option}
 use Prim.Native.Nat.{ℕ, zero, suc, ◌+◌, ◌-◌, ◌≤◌, ◌<◌}
 use mathlib.Core.Path.{◌≡◌, refl, sym, ◌∙◌}
 use mathlib.Core.Bool.{Bool, true, false}
@@ -10,8 +11,6 @@ use native.Mathlib.Omega.{arith}
 use lib.ListN.{length, get_or, set}
 use Rattle.show.specs.Limits.{Between}
 use Rattle.state.specs.declared.State.{State}
-use Rattle.run.specs.declared.Underway.{Underway}
-use Rattle.run.specs.declared.Underway.TheVariants.{Nothing, Read}
 use Rattle.run.specs.declared.Run.{Run}
 use Rattle.state.specs.State.{no_state, StateSound}
 use Rattle.run.specs.Run.{playing, state_at, clip_at, seat_at, whole_at, left_at, onward, RoomAt, PutAt}
@@ -24,7 +23,7 @@ use Rattle.run.proofs.Orders.{names_below}
 use Rattle.run.proofs.Changed.{changed_below, set_each}
 use Rattle.run.proofs.Lefts.{left_within}
 
-pub nothing_read : {X : Type 0} {i : ℕ} → Nothing ≡ Read i → X
+pub nothing_read : {X : Type 0} {i : ℕ} → None ≡ Some i → X
 nothing_read e = let z : ◌≡◌ {A = ℕ} 0 1 = cc in absurd (let f : ⊥ = omega arith in f)
 
 -- what holds either way
@@ -49,7 +48,7 @@ pub onward_below : (r : Run) (k : ℕ) → 0 < playing r → onward r k < playin
 onward_below r k h = mod-lt (r.place + k) h
 
 -- other states, and another moment of the cycle
-abbrev moved : Run → List State → ℕ → ℕ → Underway → Run
+abbrev moved : Run → List State → ℕ → ℕ → Option ℕ → Run
 moved r l place left u = with_cycle (with_states r l) place left u
 
 module _ (r : Run) (s : SoundRun r) where
@@ -65,7 +64,7 @@ module _ (r : Run) (s : SoundRun r) where
   left_at_within k l = left_within r.counts r.order k (whole_some k l)
 
   -- A read is under way only on a session that plays.
-  pub read_below : (i : ℕ) → r.underway ≡ Read i → i < playing r
+  pub read_below : (i : ℕ) → r.underway ≡ Some i → i < playing r
   read_below i e =
       elim (dec_lt 0 (playing r)) [
         | yes l ↦
@@ -93,7 +92,7 @@ module _ (r : Run) (s : SoundRun r) where
       turns : 0 < playing r → Turning (with_states r l)
       turns b = let c = s.cycle.turning b in record { place = c.place; left = c.left }
 
-      reads : (i : ℕ) → r.underway ≡ Read i → MayRead (with_states r l) i
+      reads : (i : ℕ) → r.underway ≡ Some i → MayRead (with_states r l) i
       reads i e =
           let c = s.cycle.underway i e in
           let p = g i (read_below i e) in
@@ -111,8 +110,8 @@ module _ (r : Run) (s : SoundRun r) where
 
   -- Another moment of the cycle, with its states.
   moved_sound :
-      (l : List State) (place left : ℕ) (u : Underway) → StatesSound (with_states r l) → place < playing r →
-      Between 1 left (whole_at r place) → ((i : ℕ) → u ≡ Read i → MayRead (moved r l place left u) i) →
+      (l : List State) (place left : ℕ) (u : (Option ℕ)) → StatesSound (with_states r l) → place < playing r →
+      Between 1 left (whole_at r place) → ((i : ℕ) → u ≡ Some i → MayRead (moved r l place left u) i) →
       SoundRun (moved r l place left u)
   moved_sound l place left u h inside b reads =
       record {
@@ -164,7 +163,7 @@ pub begun_sound :
     PutAt r (seat_at r place) → SoundRun (begun r place left)
 unfolding begun
 begun_sound r place left s inside b room most =
-    moved_sound r s r.states place left (Read (seat_at r place)) s.states inside b
+    moved_sound r s r.states place left (Some (seat_at r place)) s.states inside b
     (λ i e. (let f : i ≡ seat_at r place = cc in record { seat = f; room = rw f room; put = rw f most }))
 
 -- Where none is skipped the place stays, and what is left there.
@@ -177,12 +176,12 @@ past_within r zero s some =
 past_within r (suc k) s some = left_at_within r s (onward r (suc k)) (onward_below r (suc k) some)
 
 pub landed_sound :
-    (r : Run) (i : ℕ) → playing r ≤ length r.states → SoundRun r → r.underway ≡ Read i → SoundRun (landed r i)
+    (r : Run) (i : ℕ) → playing r ≤ length r.states → SoundRun r → r.underway ≡ Some i → SoundRun (landed r i)
 unfolding landed counted
 landed_sound r i n s e =
     ite_either SoundRun (dec_le r.left 1) _ _
-    (λ l. moved_sound r s _ (onward r 1) _ Nothing states next (left_at_within r s (onward r 1) next) (λ k f. nothing_read f))
-    (λ l. moved_sound r s _ r.place _ Nothing states cycle.place (fewer l) (λ k f. nothing_read f))
+    (λ l. moved_sound r s _ (onward r 1) _ None states next (left_at_within r s (onward r 1) next) (λ k f. nothing_read f))
+    (λ l. moved_sound r s _ r.place _ None states cycle.place (fewer l) (λ k f. nothing_read f))
   where
     below : i < playing r
     below = read_below r s i e

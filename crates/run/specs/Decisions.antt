@@ -1,12 +1,12 @@
 -- Whether a run is sound is told: yes with the proof that it is, or no with the proof that it is not. The types say all, so that nothing
 -- below them need be believed.
-use Rattle.std.specs.Prelude.{ℕ, zero, suc, ◌<◌, ◌≡◌, refl, List, get_or}
+use Rattle.std.specs.Prelude.{ℕ, zero, suc, ◌<◌, ◌≡◌, refl, List, get_or, Some, None, Option}
 use Rattle.std.proofs.Common.{sym, subst, ◌∙◌, arith}
 use Rattle.std.proofs.Math.Logic.Dec
 use Rattle.std.proofs.Math.Decide.{dec_le, dec_lt, ℕ_discrete}
+use Rattle.show.specs.Outcomes.{Check}
 use Rattle.show.specs.declared.Show.{Show}
 use Rattle.show.specs.declared.refusal.Refusal.TheVariants.{Damaged}
-use Rattle.show.specs.declared.refusal.Check.{Check}
 use Rattle.show.specs.Checks.{unless}
 use Rattle.show.specs.Limits.{ShowWithin, layout_at, session_at}
 use Rattle.show.specs.Decisions.{decided, between?, counts?, drive?, layout?, session?}
@@ -14,8 +14,6 @@ use Rattle.theory.specs.Counts.{Load, Good}
 use Rattle.theory.specs.Shows.{load_of}
 use Rattle.verdict.specs.Answers.{set_of}
 use Rattle.state.specs.Decisions.{when?, state?}
-use Rattle.run.specs.declared.Underway.{Underway}
-use Rattle.run.specs.declared.Underway.TheVariants.{Nothing, Read}
 use Rattle.run.specs.declared.Run.{Run}
 use Rattle.run.specs.Run.{playing, clip_at, state_at, PutAt, RoomAt}
 use Rattle.run.specs.Sound.{NamedOnce, Turning, Resting, MayRead, CycleSound, SoundRun}
@@ -72,9 +70,9 @@ named? order n i = from (some? (λ k. ℕ_discrete (get_or order k 0) i) n)
         (λ o k l e. o.only k l e ∙ sym (o.only h.0 h.1.0 h.1.1))
         (below? (λ k. when? (ℕ_discrete (get_or order k 0) i) (ℕ_discrete k h.0)) n)
 
-unfoldable pub nothing? : (u : Underway) → Dec (u ≡ Nothing)
-nothing? Nothing = yes refl
-nothing? (Read i) = no (λ e. let z : ◌≡◌ {A = ℕ} 0 1 = cc in let f : ⊥ = omega arith in f)
+unfoldable pub nothing? : (u : (Option ℕ)) → Dec (u ≡ None)
+nothing? None = yes refl
+nothing? (Some i) = no (λ e. let z : ◌≡◌ {A = ℕ} 0 1 = cc in let f : ⊥ = omega arith in f)
 
 unfoldable pub room? : (r : Run) (i : ℕ) → Dec (RoomAt r i)
 room? r i = dec_le _ _
@@ -87,9 +85,9 @@ may_read? r i =
     decided (λ h. record { seat = h.0; room = h.1.0; put = h.1.1 }) (λ m. (m.seat, (m.room, m.put)))
     (Dec.and (ℕ_discrete _ _) (Dec.and (room? r i) (put? r i)))
 
-unfoldable pub underway? : (r : Run) (u : Underway) → Dec ((i : ℕ) → u ≡ Read i → MayRead r i)
-underway? r Nothing = yes (λ i e. absurd (let z : ◌≡◌ {A = ℕ} 0 1 = cc in let f : ⊥ = omega arith in f))
-underway? r (Read k) =
+unfoldable pub underway? : (r : Run) (u : (Option ℕ)) → Dec ((i : ℕ) → u ≡ Some i → MayRead r i)
+underway? r None = yes (λ i e. absurd (let z : ◌≡◌ {A = ℕ} 0 1 = cc in let f : ⊥ = omega arith in f))
+underway? r (Some k) =
     decided (λ h i e. let s : k ≡ i = cc in subst (MayRead r) s h) (λ f. f k refl) (may_read? r k)
 
 unfoldable pub cycle? : (r : Run) → Dec (CycleSound r)

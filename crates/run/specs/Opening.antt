@@ -1,16 +1,13 @@
 -- Opening a show: docs/RULES.md, section 9.
-use Rattle.std.specs.Prelude.{ℕ, ◌≡◌, false, List, replicate}
+use Rattle.std.specs.Prelude.{ℕ, ◌≡◌, false, List, replicate, Ok, Err, None}
+use Rattle.show.specs.Outcomes.{Check}
 use Rattle.show.specs.declared.Show.{Show}
-use Rattle.show.specs.declared.refusal.Check.TheVariants.{Within, Refused}
 use Rattle.show.specs.Limits.{no_show, session_at}
 use Rattle.show.specs.Lists.{listed, padded}
 use Rattle.verdict.specs.declared.Decision.{Decision}
-use Rattle.verdict.specs.declared.Verdict.{Verdict}
-use Rattle.verdict.specs.declared.Verdict.TheVariants as verdict
 use Rattle.verdict.specs.Answers.{DecisionIs}
 use Rattle.state.specs.declared.State.{State}
 use Rattle.state.specs.State.{no_state, first_state}
-use Rattle.run.specs.declared.Underway.TheVariants.{Nothing}
 use Rattle.run.specs.declared.Run.{Run}
 use Rattle.run.specs.declared.Opened.{Opened}
 use Rattle.run.specs.Run.{left_in}
@@ -33,7 +30,7 @@ first_run s counts =
       order = table_order s.playing;
       place = 0;
       left = left_in counts (table_order s.playing) 0;
-      underway = Nothing;
+      underway = None;
       started = false;
     }
 
@@ -42,9 +39,9 @@ unfoldable pub no_run : Run
 no_run = first_run no_show (replicate 16 0)
 
 -- Accepted: the first run, with the counts decided. Refused: no run.
-abbrev pub opened_by : Show → List ℕ → Verdict → Opened
-opened_by s counts verdict.Accepted = record { check = Within; run = first_run s counts }
-opened_by s counts (verdict.Refused w) = record { check = Refused w; run = no_run }
+abbrev pub opened_by : Show → List ℕ → Check → Opened
+opened_by s counts (Ok tt) = record { check = Ok tt; run = first_run s counts }
+opened_by s counts (Err w) = record { check = Err w; run = no_run }
 
 -- What opening answers, by what deciding does.
 pub record OpenIs (s : Show) (o : Opened) : Type 0 where

@@ -1,11 +1,10 @@
 -- The places of a run, and a run with some of its parts changed: docs/RULES.md, section 9.
-use Rattle.std.specs.Prelude.{ℕ, ◌+◌, ◌%◌, ◌≤◌, List, get_or}
+use Rattle.std.specs.Prelude.{ℕ, ◌+◌, ◌%◌, ◌≤◌, List, get_or, Option}
 use Rattle.show.specs.declared.Session.{Session}
 use Rattle.show.specs.Limits.{session_at}
 use Rattle.verdict.specs.Answers.{set_of}
 use Rattle.state.specs.declared.State.{State}
 use Rattle.state.specs.State.{no_state, put_most, Room}
-use Rattle.run.specs.declared.Underway.{Underway}
 use Rattle.run.specs.declared.Run.{Run}
 
 -- how many sessions play
@@ -69,7 +68,7 @@ with_states r l =
     }
 
 -- another moment of the cycle, all else as it was
-abbrev pub with_cycle : Run → ℕ → ℕ → Underway → Run
+abbrev pub with_cycle : Run → ℕ → ℕ → Option ℕ → Run
 with_cycle r place left underway =
     record {
       show = r.show;

@@ -1,11 +1,10 @@
 -- A sound run, and so refusal 19, exactly: docs/RULES.md, section 9.
-use Rattle.std.specs.Prelude.{ℕ, ◌<◌, ◌≡◌, List, get_or}
+use Rattle.std.specs.Prelude.{ℕ, ◌<◌, ◌≡◌, List, get_or, Some, None}
 use Rattle.show.specs.Limits.{Between, ShowWithin}
 use Rattle.theory.specs.Counts.{Good}
 use Rattle.theory.specs.Shows.{load_of}
 use Rattle.verdict.specs.Answers.{set_of}
 use Rattle.state.specs.State.{StateSound}
-use Rattle.run.specs.declared.Underway.TheVariants.{Nothing, Read}
 use Rattle.run.specs.declared.Run.{Run}
 use Rattle.run.specs.Run.{playing, clip_at, state_at, seat_at, whole_at, RoomAt, PutAt}
 
@@ -33,7 +32,7 @@ pub record Turning (r : Run) : Type 0 where
 pub record Resting (r : Run) : Type 0 where
   pub place : r.place ≡ 0
   pub left : r.left ≡ 0
-  pub underway : r.underway ≡ Nothing
+  pub underway : r.underway ≡ None
 
 -- A read may be under way on the session at the place, with room for it, and not past P's limit.
 pub record MayRead (r : Run) (i : ℕ) : Type 0 where
@@ -45,7 +44,7 @@ pub record MayRead (r : Run) (i : ℕ) : Type 0 where
 pub record CycleSound (r : Run) : Type 0 where
   pub empty : playing r ≡ 0 → Resting r
   pub turning : 0 < playing r → Turning r
-  pub underway : (i : ℕ) → r.underway ≡ Read i → MayRead r i
+  pub underway : (i : ℕ) → r.underway ≡ Some i → MayRead r i
 
 -- A run record is damaged exactly if one of these fails.
 pub record SoundRun (r : Run) : Type 0 where

@@ -1,10 +1,9 @@
 -- What each step makes of a run: docs/RULES.md, section 9.
-use Rattle.std.specs.Prelude.{ℕ, zero, suc, ◌+◌, ◌-◌, Bool, true, false, List, get_or, set}
+use Rattle.std.specs.Prelude.{ℕ, zero, suc, ◌+◌, ◌-◌, Bool, true, false, List, get_or, set, Some, None}
 use Rattle.std.proofs.Math.Logic.{ite}
 use Rattle.std.proofs.Math.Decide.{dec_le}
 use Rattle.state.specs.declared.State.{State}
 use Rattle.state.specs.State.{no_state, ticked, drawn, filled}
-use Rattle.run.specs.declared.Underway.TheVariants.{Nothing, Read}
 use Rattle.run.specs.declared.Run.{Run}
 use Rattle.run.specs.Run.{playing, state_at, clip_at, seat_at, left_at, onward, with_states, with_cycle}
 use Rattle.run.specs.Decisions.{room?}
@@ -53,7 +52,7 @@ left_past r k = left_after k r.left (left_at r (onward r k))
 
 -- The read of the session at a place is under way, with so many left.
 unfoldable pub begun : Run → ℕ → ℕ → Run
-begun r place left = with_cycle r place left (Read (seat_at r place))
+begun r place left = with_cycle r place left (Some (seat_at r place))
 
 -- A block has come for session i.
 abbrev pub stored : Run → ℕ → Run
@@ -62,8 +61,8 @@ stored r i = with_states r (set r.states i (filled r.show.drive.block (state_at 
 -- One block fewer is left; at none left the cycle moves on, and an operation is to begin there.
 unfoldable pub counted : Run → Run
 counted r =
-    ite (dec_le r.left 1) (with_cycle r (onward r 1) (left_at r (onward r 1)) Nothing)
-    (with_cycle r r.place (r.left - 1) Nothing)
+    ite (dec_le r.left 1) (with_cycle r (onward r 1) (left_at r (onward r 1)) None)
+    (with_cycle r r.place (r.left - 1) None)
 
 unfoldable pub landed : Run → ℕ → Run
 landed r i = counted (stored r i)

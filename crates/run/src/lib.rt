@@ -6,17 +6,10 @@ ghost use Rattle.state.specs.State.{first_state};
 ghost use Rattle.run.specs.Run.{left_in, with_cycle};
 ghost use Rattle.run.specs.Opening.{OpenIs, table_order, first_states, first_run, no_run};
 
-use show::refusal::Check;
+use show::refusal::Refusal;
 use show::{Session, Show};
 use state::State;
-use verdict::{Verdict, decide};
-
-// Whether a read is under way, and on which session.
-#[derive(Clone, Copy)]
-pub enum Underway {
-    Nothing,
-    Read(usize),
-}
+use verdict::decide;
 
 // The show as it was given; each session's count and state; the cycle's order, its place in it, and what is left of the count there.
 // Places from `show.playing` on are not looked at.
@@ -28,7 +21,7 @@ pub struct Run {
     pub order: [u32; 16],
     pub place: usize,
     pub left: u32,
-    pub underway: Underway,
+    pub underway: Option<usize>,
     pub started: bool,
 }
 
@@ -37,7 +30,7 @@ impl Run {
     pub const SPAN_MOST: u64 = 1_000_000_000;
 
     // Another moment of the cycle, all else as it was.
-    pub fn with_cycle(self, place: usize, left: u32, underway: Underway) -> Run
+    pub fn with_cycle(self, place: usize, left: u32, underway: Option<usize>) -> Run
         ensures { result ≡ with_cycle self place left underway }
     {
         let show = self.show;
@@ -60,14 +53,14 @@ impl Run {
 // What a call on a run answers, and the run after it: the next one, or the one that was given.
 #[derive(Clone, Copy)]
 pub struct Moved {
-    pub check: Check,
+    pub check: Result<(), Refusal>,
     pub run: Run,
 }
 
 // A run that can begin, or why there is none; refused, the run is zeros.
 #[derive(Clone, Copy)]
 pub struct Opened {
-    pub check: Check,
+    pub check: Result<(), Refusal>,
     pub run: Run,
 }
 
@@ -92,15 +85,15 @@ pub fn open(show: Show) -> Opened
 {
     let decision = decide(show);
     let verdict = decision.verdict;
-    if let Verdict::Refused(why) = verdict {
+    if let Err(why) = verdict {
         return Opened {
-            check: Check::Refused(why),
+            check: Err(why),
             run: no_run(),
         };
     }
     let counts = decision.counts;
     Opened {
-        check: Check::Within,
+        check: Ok(()),
         run: first_run(show, counts),
     }
 }
@@ -149,7 +142,7 @@ fn first_run(show: Show, counts: [u32; 16]) -> Run
         order,
         place: 0,
         left,
-        underway: Underway::Nothing,
+        underway: None,
         started: false,
     }
 }

@@ -1,4 +1,5 @@
 -- The test of a run record, part by part. Assumes nothing.
+use Rattle.std.specs.Prelude.{Ok, Some, Option}
 use Prim.Native.Nat.{ℕ, ◌+◌, ◌≤◌, ◌<◌}
 use mathlib.Core.Path.{◌≡◌, refl, sym, ◌∙◌, subst}
 use mathlib.Core.Bool.{Bool, true, false}
@@ -10,7 +11,6 @@ use Rattle.show.specs.declared.Show.{Show}
 use Rattle.show.specs.Limits.{Tells, ShowWithin}
 use Rattle.theory.specs.Counts.{Good}
 use Rattle.theory.specs.Shows.{load_of}
-use Rattle.trial.specs.declared.Answer.TheVariants as answer
 use Rattle.trial.specs.declared.Trial.{Trial}
 use Rattle.verdict.specs.Answers.{set_of}
 use Rattle.trial.specs.Answers.{TrialIs, holds, fails, untried}
@@ -18,8 +18,6 @@ use Rattle.verdict.proofs.Once.{within_outside}
 use Rattle.show.specs.declared.Session.{Session}
 use Rattle.run.specs.declared.Run.{Run}
 use Rattle.state.specs.declared.State.{State}
-use Rattle.run.specs.declared.Underway.{Underway}
-use Rattle.run.specs.declared.Underway.TheVariants.{Read}
 use Rattle.state.specs.State.{Room, put_most, StateSound}
 use Rattle.run.specs.Run.{playing, clip_at, state_at, seat_at}
 use Rattle.run.proofs.Steps.{nothing_read}
@@ -33,15 +31,15 @@ use Rattle.run_test.specs.Steps.{test_if, AtRest, AtPlace, UnderwayAt}
 -- ---- the counts
 
 module _ (s : Show) (m : List ℕ) where
-  fails_holds : {X : Type 0} → answer.Fails ≡ answer.Holds → X
+  fails_holds : {X : Type 0} → (Ok false) ≡ Ok true → X
   fails_holds e = let z : ◌≡◌ {A = ℕ} 0 1 = cc in absurd (let f : ⊥ = omega arith in f)
 
-  pub trial_good : (t : Trial) → TrialIs s m t → t.answer ≡ answer.Holds → ShowWithin s × Good (load_of s) (set_of m)
+  pub trial_good : (t : Trial) → TrialIs s m t → t.answer ≡ Ok true → ShowWithin s × Good (load_of s) (set_of m)
   trial_good t (holds w g) e = (w, g)
   trial_good t (fails w n) e = fails_holds e
   trial_good t (untried w out) e = let z : ◌≡◌ {A = ℕ} 0 1 = cc in absurd (let f : ⊥ = omega arith in f)
 
-  pub trial_bad : (t : Trial) → TrialIs s m t → (t.answer ≡ answer.Holds → ⊥) → ShowWithin s → Good (load_of s) (set_of m) → ⊥
+  pub trial_bad : (t : Trial) → TrialIs s m t → (t.answer ≡ Ok true → ⊥) → ShowWithin s → Good (load_of s) (set_of m) → ⊥
   trial_bad t (holds w g) n v k = n refl
   trial_bad t (fails w b) n v k = b k
   trial_bad t (untried w out) n v k = within_outside s w v out
@@ -101,10 +99,10 @@ module _ (r : Run) (some : playing r ≡ 0 → ⊥) where
 -- ---- the read under way
 
 pub read_told :
-    (u : Underway) (seat : ℕ) (s : State) (x : Session) (A i : ℕ) → u ≡ Read i → i ≡ seat → (b : Bool) →
+    (u : (Option ℕ)) (seat : ℕ) (s : State) (x : Session) (A i : ℕ) → u ≡ Some i → i ≡ seat → (b : Bool) →
     Tells b (Room A x s × (s.put + A ≤ put_most)) → Tells b (UnderwayAt u seat s x A)
 read_told u seat s x A i e f true h =
-    λ j g. record { same = (let k : Read i ≡ Read j = sym e ∙ g in let l : i ≡ j = cc in sym l ∙ f); room = h.0; put = h.1 }
+    λ j g. record { same = (let k : Some i ≡ Some j = sym e ∙ g in let l : i ≡ j = cc in sym l ∙ f); room = h.0; put = h.1 }
 read_told u seat s x A i e f false h = λ g. (let m = g i e in h (m.room, m.put))
 
 -- ---- the answer

@@ -8,10 +8,10 @@ ghost use Rattle.run.specs.Sound.{NamesEach};
 ghost use Rattle.run_test.specs.Answers.{test_of};
 ghost use Rattle.run_test.specs.Steps.{test_if, AtRest, AtPlace, UnderwayAt};
 
-use run::{Run, Underway};
+use run::Run;
 use show::Session;
 use state::State;
-use trial::{Answer, tried};
+use trial::tried;
 
 // What the test of a record tells.
 #[derive(Clone, Copy)]
@@ -29,7 +29,7 @@ pub fn test_run(run: Run) -> Test
     let counts = run.counts;
     let trial = tried(show, counts);
     let answer = trial.answer;
-    let Answer::Holds = answer else {
+    let Ok(true) = answer else {
         return Test::Damaged;
     };
     let mut i: usize = 0;
@@ -92,7 +92,7 @@ fn names_each(order: [u32; 16], playing: usize) -> bool
 }
 
 // Whether a cycle of nobody is at its beginning.
-fn rests(place: usize, left: u32, underway: Underway) -> bool
+fn rests(place: usize, left: u32, underway: Option<usize>) -> bool
     ensures { Tells result (AtRest place left underway) }
 {
     if place != 0 {
@@ -101,7 +101,7 @@ fn rests(place: usize, left: u32, underway: Underway) -> bool
     if left != 0 {
         return false;
     }
-    let Underway::Nothing = underway else {
+    let None = underway else {
         return false;
     };
     true
@@ -127,10 +127,10 @@ fn turns(order: [u32; 16], counts: [u32; 16], playing: usize, place: usize, left
 }
 
 // Whether a read that is under way is one of the session at the place, and may be.
-fn may_read(underway: Underway, seat: usize, state: State, session: Session, block: u32) -> bool
+fn may_read(underway: Option<usize>, seat: usize, state: State, session: Session, block: u32) -> bool
     ensures { Tells result (UnderwayAt underway seat state session block) }
 {
-    let Underway::Read(read) = underway else {
+    let Some(read) = underway else {
         return true;
     };
     if read != seat {

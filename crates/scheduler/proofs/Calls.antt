@@ -1,13 +1,12 @@
 -- What choose answers, case by case. Assumes nothing.
+use Rattle.std.specs.Prelude.{Ok, Err, Some, None}
 use Prim.Native.Nat.{ℕ, ◌≤◌, ◌<◌}
 use mathlib.Core.Path.{◌≡◌, sym, ap, ◌∙◌}
 use mathlib.Core.Logic.{if_pos, if_neg}
 use native.Mathlib.Decide.{dec_lt, ℕ_discrete}
 use native.Mathlib.Omega.{arith}
+use Rattle.show.specs.Outcomes.{Check}
 use Rattle.show.specs.declared.refusal.Refusal.TheVariants as refusal
-use Rattle.show.specs.declared.refusal.Check.{Check}
-use Rattle.show.specs.declared.refusal.Check.TheVariants.{Within, Refused}
-use Rattle.run.specs.declared.Underway.TheVariants as underway
 use Rattle.run.specs.declared.Run.{Run}
 use Rattle.run.specs.Run.{playing}
 use Rattle.run.specs.Sound.{SoundRun}
@@ -25,17 +24,17 @@ module _ (r : Run) where
 
   pub choose_damaged : (SoundRun r → ⊥) → chosen (choice.Refused refusal.Damaged) r ≡ choose_of r
   unfolding choose_check
-  choose_damaged n = by_check (Refused refusal.Damaged) (damaged_first r _ n)
+  choose_damaged n = by_check (Err refusal.Damaged) (damaged_first r _ n)
 
   module _ (s : SoundRun r) where
-    pub choose_busy : (i : ℕ) → r.underway ≡ underway.Read i → chosen (choice.Refused refusal.ReadUnderway) r ≡ choose_of r
+    pub choose_busy : (i : ℕ) → r.underway ≡ Some i → chosen (choice.Refused refusal.ReadUnderway) r ≡ choose_of r
     unfolding choose_check
-    choose_busy i e = by_check (Refused refusal.ReadUnderway) (sound_then r _ s ∙ ap free_check e)
+    choose_busy i e = by_check (Err refusal.ReadUnderway) (sound_then r _ s ∙ ap free_check e)
 
-    module _ (e : r.underway ≡ underway.Nothing) where
+    module _ (e : r.underway ≡ None) where
       free : next_of r ≡ choose_of r
       unfolding choose_check
-      free = by_check Within (sound_then r _ s ∙ ap free_check e)
+      free = by_check (Ok tt) (sound_then r _ s ∙ ap free_check e)
 
       pub choose_empty : playing r ≡ 0 → chosen choice.Idle r ≡ choose_of r
       unfolding next_of

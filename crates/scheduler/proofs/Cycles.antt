@@ -1,10 +1,10 @@
 -- Who is skipped, and where choose arrives, as the code finds it. Assumes nothing.
+use Rattle.std.specs.Prelude.{Some}
 use Prim.Native.Nat.{ℕ, zero, suc, ◌+◌, ◌-◌, ◌≤◌, ◌<◌}
 use mathlib.Core.Path.{◌≡◌, refl, sym, ap, ◌∙◌}
 use mathlib.Core.Logic.{if_pos, if_neg}
 use native.Mathlib.Omega.{arith}
 use Rattle.show.specs.declared.refusal.Refusal.TheVariants.{PutLimit}
-use Rattle.run.specs.declared.Underway.TheVariants.{Read}
 use Rattle.run.specs.declared.Run.{Run}
 use Rattle.run.specs.Run.{playing, seat_at, left_at, onward, RoomAt, PutAt, with_cycle}
 use Rattle.run.specs.Decisions.{room?, put?}
@@ -54,7 +54,7 @@ module _ (r : Run) where
     unfolding arrived
     arrives_late n = sym (if_neg (put? r here) n _ _)
 
-    pub arrives : PutAt r here → chosen (choice.Read here) (with_cycle r place left (Read here)) ≡ arrived r place left
+    pub arrives : PutAt r here → chosen (choice.Read here) (with_cycle r place left (Some here)) ≡ arrived r place left
     unfolding arrived begun
     arrives p = sym (if_pos (put? r here) p _ _)
 

@@ -1,15 +1,14 @@
 -- Choose, whatever it answers: a sound run stays sound, refused it is the run that was given, and Idle is for when nobody has room.
 -- Assumes nothing.
+use Rattle.std.specs.Prelude.{Ok, Err, None}
 use Prim.Native.Nat.{ℕ, ◌≤◌, ◌<◌}
 use mathlib.Core.Path.{◌≡◌, refl, sym}
 use native.Mathlib.Decide.{dec_lt, ℕ_discrete}
 use native.Mathlib.Omega.{arith}
+use Rattle.show.specs.Outcomes.{Check}
 use Rattle.show.specs.declared.refusal.Refusal.{Refusal}
 use Rattle.show.specs.declared.refusal.Refusal.TheVariants.{PutLimit}
-use Rattle.show.specs.declared.refusal.Check.{Check}
-use Rattle.show.specs.declared.refusal.Check.TheVariants.{Within, Refused}
 use Rattle.show.proofs.Checks.{first_right}
-use Rattle.run.specs.declared.Underway.TheVariants as underway
 use Rattle.run.specs.declared.Run.{Run}
 use Rattle.run.specs.Run.{playing, seat_at, onward, PutAt}
 use Rattle.run.specs.Sound.{SoundRun}
@@ -53,8 +52,8 @@ module _ (r : Run) where
   answered = from (choose_check r)
     where
       from : (k : Check) → Answered r (chosen_by k r)
-      from Within = next
-      from (Refused w) = refused w
+      from (Ok tt) = next
+      from (Err w) = refused w
 
 -- ---- the laws
 
@@ -119,10 +118,10 @@ pub idle_run : (r : Run) → (choose_of r).choice ≡ choice.Idle → 0 < playin
 idle_run r e l = idle_next r (choose_of r) (answered r) e l
 
 -- Nothing was under way.
-pub idle_free : (r : Run) → (choose_of r).choice ≡ choice.Idle → r.underway ≡ underway.Nothing
+pub idle_free : (r : Run) → (choose_of r).choice ≡ choice.Idle → r.underway ≡ None
 unfolding choose_of choose_check
 idle_free r e = free_nothing r.underway (first_right (sound_check r) (free_check r.underway) (from (choose_check r) refl e))
   where
-    from : (k : Check) → choose_check r ≡ k → (chosen_by k r).choice ≡ choice.Idle → choose_check r ≡ Within
-    from Within f g = f
-    from (Refused w) f g = idle_refused (sym g)
+    from : (k : Check) → choose_check r ≡ k → (chosen_by k r).choice ≡ choice.Idle → choose_check r ≡ Ok tt
+    from (Ok tt) f g = f
+    from (Err w) f g = idle_refused (sym g)

@@ -1,10 +1,9 @@
 -- What choose answers: docs/RULES.md, section 9.
-use Rattle.std.specs.Prelude.{ℕ, [], ◌∷◌, pos}
+use Rattle.std.specs.Prelude.{ℕ, [], ◌∷◌, pos, Ok, Err}
 use Rattle.std.proofs.Math.Logic.{ite}
 use Rattle.std.proofs.Math.Decide.{dec_lt, ℕ_discrete}
+use Rattle.show.specs.Outcomes.{Check}
 use Rattle.show.specs.declared.refusal.Refusal.TheVariants as refusal
-use Rattle.show.specs.declared.refusal.Check.{Check}
-use Rattle.show.specs.declared.refusal.Check.TheVariants.{Within, Refused}
 use Rattle.show.specs.Checks.{first}
 use Rattle.show.specs.Outcomes.{Outcome, granted, refused_by}
 use Rattle.run.specs.declared.Run.{Run}
@@ -40,8 +39,8 @@ unfoldable pub choose_check : Run → Check
 choose_check r = first (sound_check r) (free_check r.underway)
 
 abbrev pub chosen_by : Check → Run → Chosen
-chosen_by Within r = next_of r
-chosen_by (Refused w) r = chosen (choice.Refused w) r
+chosen_by (Ok tt) r = next_of r
+chosen_by (Err w) r = chosen (choice.Refused w) r
 
 unfoldable pub choose_of : Run → Chosen
 choose_of r = chosen_by (choose_check r) r

@@ -5,7 +5,7 @@ ghost use Rattle.run.specs.Steps.{idled, left_after};
 ghost use Rattle.scheduler.specs.Answers.{arrived};
 
 use crate::{Choice, Chosen};
-use run::{Run, Underway, left_in};
+use run::{Run, left_in};
 use show::refusal::Refusal;
 use state::State;
 
@@ -56,7 +56,7 @@ pub(crate) fn arrive(run: Run, place: usize, left: u32) -> Chosen
             order,
             place,
             left,
-            underway: Underway::Read(seat),
+            underway: Some(seat),
             started: run.started,
         },
     }

@@ -7,7 +7,7 @@ ghost use Rattle.std.specs.Prelude.{◌≡◌};
 ghost use Rattle.scheduler.specs.Answers.{choose_of};
 
 use crate::cycle::{arrive, idle, left_after};
-use run::{Run, Underway, left_in};
+use run::{Run, left_in};
 use run_test::{Test, test_run};
 use show::refusal::Refusal;
 
@@ -37,7 +37,7 @@ pub fn choose(run: Run) -> Chosen
         };
     };
     let underway = run.underway;
-    let Underway::Nothing = underway else {
+    let None = underway else {
         return Chosen {
             choice: Choice::Refused(Refusal::ReadUnderway),
             run,

@@ -1,8 +1,8 @@
 -- A show is refused with w exactly if it has the fault that w tells. Assumes nothing.
+use Rattle.std.specs.Prelude.{Ok, Err}
 use mathlib.Core.Path.{◌≡◌, refl, subst, ◌∙◌}
+use Rattle.show.specs.Outcomes.{Check}
 use Rattle.show.specs.declared.Show.{Show}
-use Rattle.show.specs.declared.refusal.Check.{Check}
-use Rattle.show.specs.declared.refusal.Check.TheVariants.{Within, Refused}
 use Rattle.show.specs.declared.refusal.Refusal.{Refusal}
 use Rattle.show.specs.declared.refusal.Refusal.TheVariants.{Counts, DriveLimits, LayoutLimits, SessionLimits}
 use Rattle.show.specs.Limits.{CountsWithin, DriveWithin, LaidWithin, PlayingWithin, layout_at, session_at}
@@ -16,22 +16,22 @@ use Rattle.show.proofs.Shows.{rows_left, layouts_within, layouts_kept}
 module _ (s : Show) where
   faulted :
       {w : Refusal} (c : Dec (CountsWithin s.laid s.playing)) (d : Dec (DriveWithin s.drive)) (l : Check) →
-      layouts_check s ≡ l → first (unless c Counts) (first (unless d DriveLimits) (first l (sessions_check s))) ≡ Refused w →
+      layouts_check s ≡ l → first (unless c Counts) (first (unless d DriveLimits) (first l (sessions_check s))) ≡ Err w →
       Fault s w
   faulted (no h) d l p e = subst (Fault s) (unless_refused (no h) Counts e).1 (counts h)
   faulted (yes c) (no h) l p e = subst (Fault s) (unless_refused (no h) DriveLimits e).1 (drive c h)
-  faulted (yes c) (yes d) (Refused v) p e =
+  faulted (yes c) (yes d) (Err v) p e =
       let r = row_lowest (LaidWithin s) (λ i. layout? (layout_at s i)) LayoutLimits s.laid (p ∙ e) in
       subst (Fault s) r.2 (layout c d r.1)
-  faulted (yes c) (yes d) Within p e =
+  faulted (yes c) (yes d) (Ok tt) p e =
       let r = row_lowest (PlayingWithin s) (λ i. session? s.laid (session_at s i)) SessionLimits s.playing e in
       subst (Fault s) r.2 (session c d (layouts_within s p) r.1)
 
-  pub check_fault : {w : Refusal} → show_check s ≡ Refused w → Fault s w
+  pub check_fault : {w : Refusal} → show_check s ≡ Err w → Fault s w
   unfolding show_check
   check_fault e = faulted (counts? s.laid s.playing) (drive? s.drive) (layouts_check s) refl e
 
-  pub fault_check : {w : Refusal} → Fault s w → show_check s ≡ Refused w
+  pub fault_check : {w : Refusal} → Fault s w → show_check s ≡ Err w
   unfolding show_check
   fault_check (counts h) = first_refused _ _ (unless_broken (counts? s.laid s.playing) Counts h)
   fault_check (drive c h) =

@@ -1,8 +1,8 @@
 -- What the test of a show says: it passes exactly if every limit is kept, and nothing above a count is looked at. Assumes nothing.
+use Rattle.std.specs.Prelude.{Ok}
 use Prim.Native.Nat.{ℕ, ◌<◌}
 use mathlib.Core.Path.{◌≡◌, ◌∙◌}
 use Rattle.show.specs.declared.Show.{Show}
-use Rattle.show.specs.declared.refusal.Check.TheVariants.{Within}
 use Rattle.show.specs.declared.refusal.Refusal.TheVariants.{Counts, DriveLimits, LayoutLimits, SessionLimits}
 use Rattle.show.specs.Limits.{CountsWithin, DriveWithin, LaidWithin, PlayingWithin, ShowWithin, Alike, layout_at, session_at}
 use Rattle.show.specs.Decisions.{counts?, drive?, layout?, session?}
@@ -21,20 +21,20 @@ module _ (s : Show) where
       CountsWithin s.laid s.playing → DriveWithin s.drive → show_check s ≡ first (layouts_check s) (sessions_check s)
   rows_left c d = limits_left c ∙ first_within _ _ (unless_kept (drive? s.drive) DriveLimits d)
 
-  pub layouts_within : layouts_check s ≡ Within → (i : ℕ) → i < s.laid → LaidWithin s i
+  pub layouts_within : layouts_check s ≡ Ok tt → (i : ℕ) → i < s.laid → LaidWithin s i
   layouts_within = row_within (LaidWithin s) (λ i. layout? (layout_at s i)) LayoutLimits s.laid
 
-  pub layouts_kept : ((i : ℕ) → i < s.laid → LaidWithin s i) → layouts_check s ≡ Within
+  pub layouts_kept : ((i : ℕ) → i < s.laid → LaidWithin s i) → layouts_check s ≡ Ok tt
   layouts_kept = row_kept (LaidWithin s) (λ i. layout? (layout_at s i)) LayoutLimits s.laid
 
-  sessions_within : sessions_check s ≡ Within → (i : ℕ) → i < s.playing → PlayingWithin s i
+  sessions_within : sessions_check s ≡ Ok tt → (i : ℕ) → i < s.playing → PlayingWithin s i
   sessions_within = row_within (PlayingWithin s) (λ i. session? s.laid (session_at s i)) SessionLimits s.playing
 
-  sessions_kept : ((i : ℕ) → i < s.playing → PlayingWithin s i) → sessions_check s ≡ Within
+  sessions_kept : ((i : ℕ) → i < s.playing → PlayingWithin s i) → sessions_check s ≡ Ok tt
   sessions_kept = row_kept (PlayingWithin s) (λ i. session? s.laid (session_at s i)) SessionLimits s.playing
 
   -- A show passes exactly if it is within every limit.
-  pub check_within : show_check s ≡ Within → ShowWithin s
+  pub check_within : show_check s ≡ Ok tt → ShowWithin s
   unfolding show_check
   check_within e =
       let limits = first_right (counts_check s.laid s.playing) (limits_check s) e in
@@ -46,7 +46,7 @@ module _ (s : Show) where
         sessions = sessions_within (first_right (layouts_check s) (sessions_check s) rows);
       }
 
-  pub within_check : ShowWithin s → show_check s ≡ Within
+  pub within_check : ShowWithin s → show_check s ≡ Ok tt
   within_check w =
       rows_left w.counts w.drive ∙ first_within _ _ (layouts_kept w.layouts) ∙ sessions_kept w.sessions
 

@@ -1,27 +1,26 @@
 -- The tests of a show, 2, 5, 6 and 7 (docs/RULES.md, section 4), and how tests follow one another: the first refusal counts.
-use Rattle.std.specs.Prelude.{ℕ, zero, suc}
+use Rattle.std.specs.Prelude.{ℕ, zero, suc, Ok, Err}
 use Rattle.std.proofs.Math.Logic.{ite}
+use Rattle.show.specs.Outcomes.{Check}
 use Rattle.show.specs.Limits.{layout_at, session_at}
 use Rattle.show.specs.Decisions.{counts?, drive?, layout?, session?}
 use Rattle.show.specs.declared.Drive.{Drive}
 use Rattle.show.specs.declared.Show.{Show}
 use Rattle.show.specs.declared.refusal.Refusal.{Refusal}
 use Rattle.show.specs.declared.refusal.Refusal.TheVariants.{Counts, DriveLimits, LayoutLimits, SessionLimits}
-use Rattle.show.specs.declared.refusal.Check.{Check}
-use Rattle.show.specs.declared.refusal.Check.TheVariants.{Within, Refused}
 
 -- refused with w unless p holds
 abbrev pub unless : {p : Type 0} → Dec p → Refusal → Check
-unless d w = ite d Within (Refused w)
+unless d w = ite d (Ok tt) (Err w)
 
 -- the first refusal of two tests
 abbrev pub first : Check → Check → Check
-first Within c = c
-first (Refused w) c = Refused w
+first (Ok tt) c = c
+first (Err w) c = Err w
 
 -- the first refusal of the places 0 to n - 1: the lowest offender
 unfoldable pub first_below : (ℕ → Check) → ℕ → Check
-first_below test zero = Within
+first_below test zero = Ok tt
 first_below test (suc n) = first (first_below test n) (test n)
 
 -- 2: layout count not 1 to 8, or session count over 16

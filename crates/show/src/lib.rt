@@ -7,7 +7,7 @@ ghost use Rattle.std.specs.Prelude.{◌≡◌};
 ghost use Rattle.show.specs.Limits.{Tells, DriveWithin, LayoutWithin, SessionWithin, CountsWithin, no_show};
 ghost use Rattle.show.specs.Checks.{show_check};
 
-use crate::refusal::{Check, Refusal};
+use crate::refusal::Refusal;
 
 // A and N of the rules: bytes in a block, blocks on a cylinder.
 #[derive(Clone, Copy)]
@@ -202,29 +202,29 @@ impl Show {
     }
 
     // The tests of refusals 2, 5, 6 and 7, in this order. Both loops stand here so that neither copies the show.
-    pub fn check(self) -> Check
+    pub fn check(self) -> Result<(), Refusal>
         ensures { result ≡ show_check self }
     {
         if !Show::counts_within(self.laid, self.playing) {
-            return Check::Refused(Refusal::Counts);
+            return Err(Refusal::Counts);
         }
         if !self.drive.within() {
-            return Check::Refused(Refusal::DriveLimits);
+            return Err(Refusal::DriveLimits);
         }
         let mut i = 0;
         while i < self.laid {
             if !self.layouts[i].within() {
-                return Check::Refused(Refusal::LayoutLimits(i));
+                return Err(Refusal::LayoutLimits(i));
             }
             i += 1;
         }
         let mut k = 0;
         while k < self.playing {
             if !self.sessions[k].within(self.laid) {
-                return Check::Refused(Refusal::SessionLimits(k));
+                return Err(Refusal::SessionLimits(k));
             }
             k += 1;
         }
-        Check::Within
+        Ok(())
     }
 }

@@ -26,13 +26,6 @@ pub enum Refusal {
     Damaged,
 }
 
-// What a test answers.
-#[derive(Clone, Copy)]
-pub enum Check {
-    Within,
-    Refused(Refusal),
-}
-
 // How a refusal is told: its number, and the place, which is 0 but for 6 and 7.
 #[derive(Clone, Copy)]
 pub struct Told {

@@ -4,10 +4,10 @@ use mathlib.Core.Path.{◌≡◌}
 use mathlib.Core.List.{List}
 use lib.ListN.{drop}
 use lib.Seq.{drop-drop}
+use Rattle.show.specs.Outcomes.{Check}
 use Rattle.show.specs.declared.Layout.{Layout}
 use Rattle.show.specs.declared.Session.{Session}
 use Rattle.show.specs.declared.Show.{Show}
-use Rattle.show.specs.declared.refusal.Check.{Check}
 use Rattle.show.specs.Limits.{CountsWithin, no_layout, no_session}
 use Rattle.show.specs.Checks.{limits_check, show_check}
 use Rattle.show.proofs.Shows.{limits_left}

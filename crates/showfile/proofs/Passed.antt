@@ -1,9 +1,9 @@
 -- What a test that is passed says of a file's trailer, and of its show. Assumes nothing.
+use Rattle.std.specs.Prelude.{Ok}
 use Prim.Native.Nat.{ℕ, ◌≤◌}
 use mathlib.Core.Path.{◌≡◌, sym, ◌∙◌}
 use native.Mathlib.Decide.{dec_le}
 use Rattle.show.specs.declared.Show.{Show}
-use Rattle.show.specs.declared.refusal.Check.TheVariants.{Within}
 use Rattle.show.specs.declared.refusal.Refusal.TheVariants.{Counts, Distances, NoteLength}
 use Rattle.show.specs.Limits.{CountsWithin, ShowWithin}
 use Rattle.show.specs.Decisions.{counts?}
@@ -19,7 +19,7 @@ pub record Framed (at : ℕ) (t : Trailer) : Type 0 where
   pub distances : Distanced at t
   pub note : note_length at t ≤ note_most
 
-pub check_framed : (at : ℕ) (t : Trailer) → trailer_check at t ≡ Within → Framed at t
+pub check_framed : (at : ℕ) (t : Trailer) → trailer_check at t ≡ Ok tt → Framed at t
 unfolding trailer_check
 check_framed at t e =
     let c = counts_check t.laid t.playing in
@@ -32,7 +32,7 @@ check_framed at t e =
       note = unless_within (dec_le (note_length at t) note_most) NoteLength (first_right d n rest);
     }
 
-pub framed_check : (at : ℕ) (t : Trailer) → Framed at t → trailer_check at t ≡ Within
+pub framed_check : (at : ℕ) (t : Trailer) → Framed at t → trailer_check at t ≡ Ok tt
 unfolding trailer_check
 framed_check at t f =
     first_within _ _ (unless_kept (counts? t.laid t.playing) Counts f.counts)
@@ -40,8 +40,8 @@ framed_check at t f =
     ∙ unless_kept (dec_le (note_length at t) note_most) NoteLength f.note
 
 -- a show past 5, 6 and 7, where 2 is passed
-pub limits_within : (x : Show) → CountsWithin x.laid x.playing → limits_check x ≡ Within → ShowWithin x
+pub limits_within : (x : Show) → CountsWithin x.laid x.playing → limits_check x ≡ Ok tt → ShowWithin x
 limits_within x c e = check_within x (limits_left x c ∙ e)
 
-pub within_limits : (x : Show) → ShowWithin x → limits_check x ≡ Within
+pub within_limits : (x : Show) → ShowWithin x → limits_check x ≡ Ok tt
 within_limits x w = sym (limits_left x w.counts) ∙ within_check x w

@@ -1,11 +1,11 @@
 -- What is so of a file that reading lets pass. Assumes nothing.
+use Rattle.std.specs.Prelude.{Ok, Err}
 use Prim.Native.Nat.{ℕ, ◌-◌}
 use mathlib.Core.Path.{◌≡◌, refl, ap}
 use mathlib.Core.List.{List}
 use lib.ListN.{length, drop}
+use Rattle.show.specs.Outcomes.{Check}
 use Rattle.show.specs.declared.Show.{Show}
-use Rattle.show.specs.declared.refusal.Check.{Check}
-use Rattle.show.specs.declared.refusal.Check.TheVariants.{Within, Refused}
 use Rattle.show.specs.declared.refusal.Refusal.TheVariants.{FileLength}
 use Rattle.show.specs.Limits.{Between, ShowWithin}
 use Rattle.show.specs.Decisions.{between?}
@@ -29,20 +29,20 @@ pub record Readable (f : List ℕ) : Type 0 where
   pub size : Between file_least (length f) file_most
   pub framed : Framed (end f) (last f)
   pub within : ShowWithin (shown_at f (end f) (last f))
-  pub is : read_of f ≡ reading Within (shown_at f (end f) (last f)) (note_length (end f) (last f))
+  pub is : read_of f ≡ reading (Ok tt) (shown_at f (end f) (last f)) (note_length (end f) (last f))
 
-reading_within : (c : Check) (x : Show) (n : ℕ) → (reading c x n).check ≡ Within → c ≡ Within
-reading_within Within x n e = refl
-reading_within (Refused w) x n e = e
+reading_within : (c : Check) (x : Show) (n : ℕ) → (reading c x n).check ≡ Ok tt → c ≡ Ok tt
+reading_within (Ok tt) x n e = refl
+reading_within (Err w) x n e = e
 
-pub check_readable : (f : List ℕ) → (read_of f).check ≡ Within → Readable f
+pub check_readable : (f : List ℕ) → (read_of f).check ≡ Ok tt → Readable f
 unfolding read_of read_at read_check show_from
 check_readable f e =
     let a = length_check (length f) in
     let b = trailer_check (end f) (last f) in
     let x = shown_at f (end f) (last f) in
     let n = note_length (end f) (last f) in
-    let all : first a (first b (limits_check x)) ≡ Within = reading_within (first a (first b (limits_check x))) x n e in
+    let all : first a (first b (limits_check x)) ≡ Ok tt = reading_within (first a (first b (limits_check x))) x n e in
     let rest = first_right a (first b (limits_check x)) all in
     let framed = check_framed (end f) (last f) (first_left b (limits_check x) rest) in
     record {
@@ -53,5 +53,5 @@ check_readable f e =
     }
 
 -- What is read is within every limit.
-pub read_within : (f : List ℕ) → (read_of f).check ≡ Within → ShowWithin (read_of f).show
+pub read_within : (f : List ℕ) → (read_of f).check ≡ Ok tt → ShowWithin (read_of f).show
 read_within f e = let g = check_readable f e in rw g.is g.within

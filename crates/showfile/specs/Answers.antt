@@ -1,8 +1,7 @@
 -- What reading answers; the form of what a writer answers, and of what its buffer then holds: docs/RULES.md, section 6.
-use Rattle.std.specs.Prelude.{ℕ, ◌-◌, List, ◌++◌, length, take, drop}
+use Rattle.std.specs.Prelude.{ℕ, ◌-◌, List, ◌++◌, length, take, drop, Ok, Err}
+use Rattle.show.specs.Outcomes.{Check}
 use Rattle.show.specs.declared.Show.{Show}
-use Rattle.show.specs.declared.refusal.Check.{Check}
-use Rattle.show.specs.declared.refusal.Check.TheVariants.{Within, Refused}
 use Rattle.show.specs.Limits.{no_show}
 use Rattle.show.specs.Checks.{first, limits_check}
 use Rattle.showfile.specs.declared.trailer.Trailer.{Trailer}
@@ -15,8 +14,8 @@ use Rattle.showfile.specs.Checks.{note_length, length_check, trailer_check}
 
 -- a show and the length of its note; refused, zeros
 abbrev pub reading : Check → Show → ℕ → Reading
-reading Within x n = record { check = Within; show = x; note = n }
-reading (Refused w) x n = record { check = Refused w; show = no_show; note = 0 }
+reading (Ok tt) x n = record { check = Ok tt; show = x; note = n }
+reading (Err w) x n = record { check = Err w; show = no_show; note = 0 }
 
 -- the show of a file whose trailer t stands at `at`
 abbrev pub shown_at : List ℕ → ℕ → Trailer → Show
@@ -41,10 +40,10 @@ note_of f = take (read_of f).note f
 
 -- how many bytes were written; refused, 0
 abbrev pub written : Check → ℕ → Written
-written Within n = record { check = Within; len = n }
-written (Refused w) n = record { check = Refused w; len = 0 }
+written (Ok tt) n = record { check = Ok tt; len = n }
+written (Err w) n = record { check = Err w; len = 0 }
 
 -- the bytes from the buffer's first, and every later byte as it was; refused, every byte as it was
 abbrev pub written_over : Check → List ℕ → List ℕ → List ℕ
-written_over Within file b = file ++ drop (length file) b
-written_over (Refused w) file b = b
+written_over (Ok tt) file b = file ++ drop (length file) b
+written_over (Err w) file b = b

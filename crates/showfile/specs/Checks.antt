@@ -2,8 +2,8 @@
 use Rattle.std.specs.Prelude.{ℕ, ◌+◌, ◌*◌, ◌-◌, ◌≤◌, ◌≡◌}
 use Rattle.std.proofs.Math.Logic.Dec
 use Rattle.std.proofs.Math.Decide.{dec_le, ℕ_discrete}
+use Rattle.show.specs.Outcomes.{Check}
 use Rattle.show.specs.declared.refusal.Refusal.TheVariants.{FileLength, Distances, NoteLength}
-use Rattle.show.specs.declared.refusal.Check.{Check}
 use Rattle.show.specs.Decisions.{decided, between?}
 use Rattle.show.specs.Checks.{unless, first, counts_check}
 use Rattle.showfile.specs.declared.trailer.Trailer.{Trailer}

@@ -5,8 +5,7 @@ mod bytes;
 mod rows;
 pub mod trailer;
 
-ghost use Rattle.std.specs.Prelude.{◌≡◌, ◌+◌, ◌*◌, ◌≤◌, length, drop};
-ghost use Rattle.show.specs.declared.refusal.Check.TheVariants.{Within, Refused};
+ghost use Rattle.std.specs.Prelude.{◌≡◌, ◌+◌, ◌*◌, ◌≤◌, length, drop, Err, Ok};
 ghost use Rattle.show.specs.Checks.{limits_check};
 ghost use Rattle.show.specs.Limits.{Between, Tells, no_show};
 ghost use Rattle.showfile.specs.File.{show_from};
@@ -16,12 +15,12 @@ ghost use Rattle.showfile.specs.Answers.{reading, read_of, note_of, shown_at};
 use crate::rows::{get_layouts, get_sessions};
 use crate::trailer::{Trailer, get_trailer};
 use show::Show;
-use show::refusal::{Check, Refusal};
+use show::refusal::Refusal;
 
 // What reading answers: the show and the length of its note. Refused, both are zeros.
 #[derive(Clone, Copy)]
 pub struct Reading {
-    pub check: Check,
+    pub check: Result<(), Refusal>,
     pub show: Show,
     pub note: usize,
 }
@@ -29,7 +28,7 @@ pub struct Reading {
 // What a writer answers: how many bytes it wrote. Refused, none.
 #[derive(Clone, Copy)]
 pub struct Written {
-    pub check: Check,
+    pub check: Result<(), Refusal>,
     pub len: usize,
 }
 
@@ -64,24 +63,24 @@ impl Reading {
 
 // What a refusal answers; for whoever reads on behalf of another, too.
 pub fn refused(why: Refusal) -> Reading
-    ensures { result ≡ reading (Refused why) no_show 0 }
+    ensures { result ≡ reading (Err why) no_show 0 }
 {
     let show = Show::nothing();
     Reading {
-        check: Check::Refused(why),
+        check: Err(why),
         show,
         note: 0,
     }
 }
 
-fn answer(check: Check, show: Show, note: usize) -> Reading
+fn answer(check: Result<(), Refusal>, show: Show, note: usize) -> Reading
     ensures { result ≡ reading check show note }
 {
-    if let Check::Refused(why) = check {
+    if let Err(why) = check {
         return refused(why);
     }
     Reading {
-        check: Check::Within,
+        check: Ok(()),
         show,
         note,
     }
@@ -106,7 +105,7 @@ fn get_show(file: &[u8], from: usize, t: Trailer) -> Show
 
 // What is left to test where the trailer is good: 5, 6, 7.
 fn read_limits(file: &[u8], at: usize, t: Trailer) -> Reading
-    requires { (at ≤ length file.now) × (trailer_check at t ≡ Within) }
+    requires { (at ≤ length file.now) × (trailer_check at t ≡ Ok tt) }
     ensures { result ≡ reading (limits_check (shown_at file.now at t)) (shown_at file.now at t) (note_length at t) }
 {
     let note = at - 16 * (t.laid + t.playing);
@@ -125,7 +124,7 @@ pub fn read(file: &[u8]) -> Reading
     let at = n - Trailer::LENGTH;
     let t = get_trailer(file, at);
     let check = t.check(at);
-    if let Check::Refused(why) = check {
+    if let Err(why) = check {
         return refused(why);
     }
     read_limits(file, at, t)

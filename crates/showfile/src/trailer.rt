@@ -6,7 +6,7 @@ ghost use Rattle.showfile.specs.Checks.{Distanced, trailer_check};
 
 use crate::Reading;
 use crate::bytes::{get_half, get_word};
-use show::refusal::{Check, Refusal};
+use show::refusal::Refusal;
 use show::{Drive, Show};
 
 // `far` and `near` are the distances from the trailer's first byte back to the first layout and to the first session.
@@ -39,19 +39,19 @@ impl Trailer {
     }
 
     // 2, 3, 4, of a trailer that stands at `at`.
-    pub(crate) fn check(self, at: usize) -> Check
+    pub(crate) fn check(self, at: usize) -> Result<(), Refusal>
         ensures { result ≡ trailer_check at self }
     {
         if !Show::counts_within(self.laid, self.playing) {
-            return Check::Refused(Refusal::Counts);
+            return Err(Refusal::Counts);
         }
         if !self.distanced(at) {
-            return Check::Refused(Refusal::Distances);
+            return Err(Refusal::Distances);
         }
         if !Reading::note_within(at - 16 * (self.laid + self.playing)) {
-            return Check::Refused(Refusal::NoteLength);
+            return Err(Refusal::NoteLength);
         }
-        Check::Within
+        Ok(())
     }
 }
 

@@ -1,14 +1,14 @@
 -- There and back: writing what was read gives the same bytes, and reading what was written gives the same note and show, with zeros in
 -- its unused places. Assumes nothing.
+use Rattle.std.specs.Prelude.{Ok, Err}
 use Prim.Native.Nat.{ℕ, ◌+◌, ◌*◌, ◌≤◌}
 use mathlib.Core.Path.{◌≡◌, refl, sym, ap, ◌∙◌}
 use mathlib.Core.List.{List, ◌++◌}
 use native.Mathlib.Omega.{arith}
 use lib.ListN.{length, take, drop, length-append, length-drop, take-append-drop}
 use lib.Seq.{drop-drop, take_at, length-take-le}
+use Rattle.show.specs.Outcomes.{Check}
 use Rattle.show.specs.declared.Show.{Show}
-use Rattle.show.specs.declared.refusal.Check.{Check}
-use Rattle.show.specs.declared.refusal.Check.TheVariants.{Within, Refused}
 use Rattle.show.specs.declared.refusal.Refusal.{Refusal}
 use Rattle.show.specs.declared.refusal.Refusal.TheVariants.{FileLength}
 use Rattle.show.specs.Limits.{ShowWithin, no_show}
@@ -41,7 +41,7 @@ use Rattle.showfile_write.proofs.Parts.{trailer_again, rows_again, trailer_read,
 -- ---- read, then written
 
 -- Writing what was read gives the same bytes.
-pub file_written : (f : List ℕ) → Bytes f → (read_of f).check ≡ Within → file_of (read_of f).show (note_of f) ≡ f
+pub file_written : (f : List ℕ) → Bytes f → (read_of f).check ≡ Ok tt → file_of (read_of f).show (note_of f) ≡ f
 file_written f b e =
     let g = check_readable f e in
     let t = last f in
@@ -60,7 +60,7 @@ file_written f b e =
 
 -- What was read may be written, given room.
 pub read_writable :
-    (f : List ℕ) → Bytes f → (read_of f).check ≡ Within → (room : ℕ) →
+    (f : List ℕ) → Bytes f → (read_of f).check ≡ Ok tt → (room : ℕ) →
     write_check (read_of f).show (note_of f) room ≡ room_check (length f) room
 read_writable f b e room =
     let g = check_readable f e in
@@ -73,7 +73,7 @@ read_writable f b e room =
 -- Reading what was written gives the same note and show, unused places zero.
 pub file_read :
     (x : Show) (note : List ℕ) → length x.layouts ≡ 8 → length x.sessions ≡ 16 → ShowWithin x → length note ≤ note_most →
-    read_of (file_of x note) ≡ reading Within (zeroed x) (length note)
+    read_of (file_of x note) ≡ reading (Ok tt) (zeroed x) (length note)
 unfolding read_of read_at read_check trailer_for
 file_read x note hl hs w h =
     let f = file_of x note in
@@ -86,7 +86,7 @@ file_read x note hl hs w h =
     let note_at : note_length at (trailer_for x) ≡ length note = omega arith in
     let framed : Framed at (trailer_for x) =
     record { counts = w.counts; distances = record { far = refl; near = refl; inside = omega arith }; note = omega arith } in
-    let sized : length_check (length f) ≡ Within =
+    let sized : length_check (length f) ≡ Ok tt =
     unless_kept (between? file_least (length f) file_most) FileLength (record { low = omega arith; high = omega arith }) in
     rw (
       end_at,
@@ -107,19 +107,19 @@ note_read x note hl hs w h = rw (file_read x note hl hs w h) (take_at note _ (le
 -- ---- there and back in one call, by what its first half answered
 
 pub written_check : (c : Check) (n : ℕ) → (written c n).check ≡ c
-written_check Within n = refl
-written_check (Refused w) n = refl
+written_check (Ok tt) n = refl
+written_check (Err w) n = refl
 
 module _ (x : Show) (note b : List ℕ) {r : Written} {b' : List ℕ} (wrote : r ≡ written_of x note (length b)) (left : b' ≡ buffer_of x note b) where
   told : r.check ≡ write_check x note (length b)
   unfolding written_of
   told = ap (λ (a : Written). a.check) wrote ∙ written_check (write_check x note (length b)) (length (file_of x note))
 
-  pub reread_refused : {w : Refusal} → r.check ≡ Refused w → reading (Refused w) no_show 0 ≡ reread_of x note (length b)
+  pub reread_refused : {w : Refusal} → r.check ≡ Err w → reading (Err w) no_show 0 ≡ reread_of x note (length b)
   unfolding reread_of
   reread_refused e = rw (sym told ∙ e)
 
-  module _ (good : r.check ≡ Within) where
+  module _ (good : r.check ≡ Ok tt) where
     size : r.len ≡ length (file_of x note)
     unfolding written_of
     size = ap (λ (a : Written). a.len) wrote ∙ rw (sym told ∙ good)
@@ -135,23 +135,23 @@ module _ (x : Show) (note b : List ℕ) {r : Written} {b' : List ℕ} (wrote : r
     pub reread_answers : length x.layouts ≡ 8 → length x.sessions ≡ 16 → read_of (take r.len b') ≡ reread_of x note (length b)
     unfolding reread_of
     reread_answers hl hs =
-        let may : write_check x note (length b) ≡ Within = sym told ∙ good in
+        let may : write_check x note (length b) ≡ Ok tt = sym told ∙ good in
         let w = check_writable x note (length b) may in
         let f = file_of x note in
         rw (size, filed, take_at f (drop (length f) b) (length f) refl, may) (file_read x note hl hs w.within w.short)
 
 module _ (f b : List ℕ) {r : Reading} (got : r ≡ read_of f) where
   pub copy_refused :
-      {a : Written} {w : Refusal} → a ≡ written (Refused w) 0 → r.check ≡ Refused w → (a ≡ copied_of f (length b)) × (b ≡ copy_of f b)
+      {a : Written} {w : Refusal} → a ≡ written (Err w) 0 → r.check ≡ Err w → (a ≡ copied_of f (length b)) × (b ≡ copy_of f b)
   unfolding copied_of copy_of copy_check
   copy_refused none e = (rw (none, ← got, e), rw (← got, e))
 
   pub copy_answers :
-      Bytes f → r.check ≡ Within → {a : Written} {b' : List ℕ} → a ≡ written_of r.show (take r.note f) (length b) →
+      Bytes f → r.check ≡ Ok tt → {a : Written} {b' : List ℕ} → a ≡ written_of r.show (take r.note f) (length b) →
       b' ≡ buffer_of r.show (take r.note f) b → (a ≡ copied_of f (length b)) × (b' ≡ copy_of f b)
   unfolding written_of buffer_of copied_of copy_of copy_check
   copy_answers bytes e wrote left =
-      let good : (read_of f).check ≡ Within = rw (← got) e in
+      let good : (read_of f).check ≡ Ok tt = rw (← got) e in
       let may = read_writable f bytes good (length b) in
       let same = file_written f bytes good in
       (rw (wrote, got, may, same, good), rw (left, got, may, same, good))

@@ -1,7 +1,7 @@
 -- What both ways answer, there and back, and what the buffer then holds: docs/RULES.md, section 6.
 use Rattle.std.specs.Prelude.{ℕ, List, length}
+use Rattle.show.specs.Outcomes.{Check}
 use Rattle.show.specs.declared.Show.{Show}
-use Rattle.show.specs.declared.refusal.Check.{Check}
 use Rattle.show.specs.Checks.{first}
 use Rattle.showfile.specs.declared.Reading.{Reading}
 use Rattle.showfile.specs.declared.Written.{Written}

@@ -6,7 +6,6 @@ ghost use Rattle.showfile_write.specs.Answers.{buffer_of};
 ghost use Rattle.showfile_copy.specs.Trips.{reread_of, copied_of, copy_of};
 
 use show::Show;
-use show::refusal::Check;
 use showfile::{Reading, Written, read, refused};
 use showfile_write::write;
 
@@ -17,7 +16,7 @@ pub fn reread(show: Show, note: &[u8], buffer: &mut [u8]) -> Reading
 {
     let wrote = write(show, note, buffer);
     let check = wrote.check;
-    if let Check::Refused(why) = check {
+    if let Err(why) = check {
         return refused(why);
     }
     let n = wrote.len;
@@ -31,9 +30,9 @@ pub fn copy(file: &[u8], buffer: &mut [u8]) -> Written
 {
     let got = read(file);
     let check = got.check;
-    if let Check::Refused(why) = check {
+    if let Err(why) = check {
         return Written {
-            check: Check::Refused(why),
+            check: Err(why),
             len: 0,
         };
     }

@@ -1,11 +1,11 @@
 -- The four parts of a file, one after the other in a buffer, and what `write` leaves there. Assumes nothing.
+use Rattle.std.specs.Prelude.{Ok, Err}
 use Prim.Native.Nat.{ℕ, ◌+◌, ◌*◌, ◌≤◌}
 use mathlib.Core.Path.{◌≡◌, ap, ◌∙◌}
 use mathlib.Core.List.{List, ◌++◌, append_assoc}
 use native.Mathlib.Omega.{arith}
 use lib.ListN.{length, take, drop, length-append}
 use Rattle.show.specs.declared.Show.{Show}
-use Rattle.show.specs.declared.refusal.Check.TheVariants.{Within, Refused}
 use Rattle.show.specs.declared.refusal.Refusal.{Refusal}
 use Rattle.showfile.specs.declared.Written.{Written}
 use Rattle.showfile.specs.Bytes.{row_bytes, over}
@@ -45,14 +45,14 @@ module _ (x : Show) (note b : List ℕ) where
 
   -- what `write` answers and leaves, by its test
   pub filed_refused :
-      {a : Written} {w : Refusal} → a ≡ written (Refused w) 0 → write_check x note (length b) ≡ Refused w →
+      {a : Written} {w : Refusal} → a ≡ written (Err w) 0 → write_check x note (length b) ≡ Err w →
       (a ≡ written_of x note (length b)) × (b ≡ buffer_of x note b)
   unfolding written_of buffer_of
   filed_refused none e = (rw (none, e), rw e)
 
   pub filed_within :
-      {b' : List ℕ} {n : ℕ} → write_check x note (length b) ≡ Within → n ≡ length (file_of x note) →
+      {b' : List ℕ} {n : ℕ} → write_check x note (length b) ≡ Ok tt → n ≡ length (file_of x note) →
       b' ≡ file_of x note ++ drop (length (file_of x note)) b →
-      (written Within n ≡ written_of x note (length b)) × (b' ≡ buffer_of x note b)
+      (written (Ok tt) n ≡ written_of x note (length b)) × (b' ≡ buffer_of x note b)
   unfolding written_of buffer_of
   filed_within e size put = (rw (e, size), rw (e, put))

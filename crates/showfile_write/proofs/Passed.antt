@@ -1,11 +1,11 @@
 -- What a test that is passed says of a show that is to be written. Assumes nothing.
+use Rattle.std.specs.Prelude.{Ok}
 use Prim.Native.Nat.{ℕ, ◌≤◌}
 use mathlib.Core.Path.{◌≡◌, ◌∙◌}
 use mathlib.Core.List.{List}
 use native.Mathlib.Decide.{dec_le}
 use lib.ListN.{length}
 use Rattle.show.specs.declared.Show.{Show}
-use Rattle.show.specs.declared.refusal.Check.TheVariants.{Within}
 use Rattle.show.specs.declared.refusal.Refusal.TheVariants.{Counts, NoteLength, BufferShort}
 use Rattle.show.specs.Limits.{ShowWithin}
 use Rattle.show.specs.Decisions.{counts?}
@@ -22,7 +22,7 @@ pub record Writable (x : Show) (note : List ℕ) (room : ℕ) : Type 0 where
   pub short : length note ≤ note_most
   pub fits : length (file_of x note) ≤ room
 
-pub check_writable : (x : Show) (note : List ℕ) (room : ℕ) → write_check x note room ≡ Within → Writable x note room
+pub check_writable : (x : Show) (note : List ℕ) (room : ℕ) → write_check x note room ≡ Ok tt → Writable x note room
 unfolding write_check
 check_writable x note room e =
     let c = counts_check x.laid x.playing in

@@ -1,4 +1,5 @@
 -- Writing does not look at unused places: shows that agree below their counts are written alike. Assumes nothing.
+use Rattle.std.specs.Prelude.{Ok, Err}
 use Prim.Native.Nat.{ℕ, ◌≤◌, ◌<◌}
 use mathlib.Core.Path.{◌≡◌, refl, sym, ap, ap₂, subst, ◌∙◌}
 use mathlib.Core.List.{List}
@@ -7,9 +8,8 @@ use native.Mathlib.Decide.{dec_lt}
 use native.Mathlib.Nat.{le_refl}
 use lib.ListN.{length, take, get_or, get_or-eq_default}
 use lib.Seq.{length-take-le, get_or-take, ext_get_or}
+use Rattle.show.specs.Outcomes.{Check}
 use Rattle.show.specs.declared.Show.{Show}
-use Rattle.show.specs.declared.refusal.Check.{Check}
-use Rattle.show.specs.declared.refusal.Check.TheVariants.{Within, Refused}
 use Rattle.show.specs.declared.refusal.Refusal.{Refusal}
 use Rattle.show.specs.declared.refusal.Refusal.TheVariants.{Counts}
 use Rattle.show.specs.Limits.{CountsWithin, LayoutWithin, SessionWithin, ShowWithin, Alike, no_layout, no_session}
@@ -69,13 +69,13 @@ module _ (s t : Show) (a : Alike s t) (w : ShowWithin s) where
 
 -- What is told beside a refusal is the same whatever it is told of, so that need be the same only where the test is passed.
 pub told_same :
-    {A B : Type 0} (tell : Check → A → B) → ((w : Refusal) (x y : A) → tell (Refused w) x ≡ tell (Refused w) y) → (k j : Check) (x y : A) → k ≡ j →
-    (k ≡ Within → x ≡ y) → tell k x ≡ tell j y
+    {A B : Type 0} (tell : Check → A → B) → ((w : Refusal) (x y : A) → tell (Err w) x ≡ tell (Err w) y) → (k j : Check) (x y : A) → k ≡ j →
+    (k ≡ Ok tt → x ≡ y) → tell k x ≡ tell j y
 told_same tell refused k j x y e f = from k refl ∙ ap (λ (c : Check). tell c y) e
   where
     from : (c : Check) → k ≡ c → tell c x ≡ tell c y
-    from Within g = ap (tell Within) (f g)
-    from (Refused w) g = refused w x y
+    from (Ok tt) g = ap (tell (Ok tt)) (f g)
+    from (Err w) g = refused w x y
 
 module _ (s t : Show) (a : Alike s t) (note : List ℕ) where
   limits_same : CountsWithin s.laid s.playing → limits_check s ≡ limits_check t
@@ -93,7 +93,7 @@ module _ (s t : Show) (a : Alike s t) (note : List ℕ) where
       (λ l. ap (λ (f : List ℕ). room_check (length f) room) (file_same s t a (limits_within s c l) note))))
 
   -- Where it may be written, the file is the same.
-  writable_same : (room : ℕ) → write_check s note room ≡ Within → file_of s note ≡ file_of t note
+  writable_same : (room : ℕ) → write_check s note room ≡ Ok tt → file_of s note ≡ file_of t note
   writable_same room e = file_same s t a (check_writable s note room e).within note
 
   pub written_same : (room : ℕ) → written_of s note room ≡ written_of t note room

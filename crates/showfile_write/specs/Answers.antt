@@ -1,8 +1,8 @@
 -- What writing answers, and what the buffer then holds: docs/RULES.md, section 6.
 use Rattle.std.specs.Prelude.{ℕ, List, length}
 use Rattle.std.proofs.Math.Decide.{dec_le}
+use Rattle.show.specs.Outcomes.{Check}
 use Rattle.show.specs.declared.Show.{Show}
-use Rattle.show.specs.declared.refusal.Check.{Check}
 use Rattle.show.specs.declared.refusal.Refusal.TheVariants.{BufferShort}
 use Rattle.show.specs.Checks.{unless, first, counts_check, limits_check}
 use Rattle.showfile.specs.declared.Written.{Written}

@@ -5,8 +5,7 @@ mod bytes;
 mod rows;
 mod trailer;
 
-ghost use Rattle.std.specs.Prelude.{◌≡◌, ◌++◌, length, drop};
-ghost use Rattle.show.specs.declared.refusal.Check.TheVariants.{Within, Refused};
+ghost use Rattle.std.specs.Prelude.{◌≡◌, ◌++◌, length, drop, Err, Ok};
 ghost use Rattle.showfile.specs.File.{file_of};
 ghost use Rattle.showfile.specs.Answers.{written};
 ghost use Rattle.showfile_write.specs.Answers.{write_check, written_of, buffer_of};
@@ -15,42 +14,42 @@ use crate::bytes::put_bytes;
 use crate::rows::{put_layouts, put_sessions};
 use crate::trailer::{put_trailer, trailer_of};
 use show::Show;
-use show::refusal::{Check, Refusal};
+use show::refusal::Refusal;
 use showfile::trailer::Trailer;
 use showfile::{Reading, Written};
 
 fn unwritten(why: Refusal) -> Written
-    ensures { result ≡ written (Refused why) 0 }
+    ensures { result ≡ written (Err why) 0 }
 {
     Written {
-        check: Check::Refused(why),
+        check: Err(why),
         len: 0,
     }
 }
 
 // 2, 4, 5, 6, 7, 16, of a buffer of `room` bytes.
-fn check_write(show: Show, note: &[u8], room: usize) -> Check
+fn check_write(show: Show, note: &[u8], room: usize) -> Result<(), Refusal>
     ensures { result ≡ write_check show note.now room }
 {
     if !Show::counts_within(show.laid, show.playing) {
-        return Check::Refused(Refusal::Counts);
+        return Err(Refusal::Counts);
     }
     if Reading::NOTE_MOST < note.len() {
-        return Check::Refused(Refusal::NoteLength);
+        return Err(Refusal::NoteLength);
     }
     let check = show.check();
-    if let Check::Refused(why) = check {
-        return Check::Refused(why);
+    if let Err(why) = check {
+        return Err(why);
     }
     if room < note.len() + 16 * (show.laid + show.playing) + Trailer::LENGTH {
-        return Check::Refused(Refusal::BufferShort);
+        return Err(Refusal::BufferShort);
     }
-    Check::Within
+    Ok(())
 }
 
 // Writes a file that has been found good and to fit, and answers its length.
 fn put_file(show: Show, note: &[u8], buffer: &mut [u8]) -> usize
-    requires { write_check show note.now (length buffer.old) ≡ Within }
+    requires { write_check show note.now (length buffer.old) ≡ Ok tt }
     ensures value { result ≡ length (file_of show note.now) }
     ensures buffer_after { buffer.new ≡ file_of show note.now ++ drop (length (file_of show note.now)) buffer.old }
 {
@@ -72,12 +71,12 @@ pub fn write(show: Show, note: &[u8], buffer: &mut [u8]) -> Written
     ensures buffer_after { buffer.new ≡ buffer_of show note.now buffer.old }
 {
     let check = check_write(show, note, buffer.len());
-    if let Check::Refused(why) = check {
+    if let Err(why) = check {
         return unwritten(why);
     }
     let len = put_file(show, note, buffer);
     Written {
-        check: Check::Within,
+        check: Ok(()),
         len,
     }
 }

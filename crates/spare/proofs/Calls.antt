@@ -1,4 +1,5 @@
 -- What each call answers, case by case. Assumes nothing.
+use Rattle.std.specs.Prelude.{Ok, Err, Some, None, Result}
 use Prim.Native.Nat.{ℕ, ◌≤◌, ◌<◌}
 use mathlib.Core.Path.{◌≡◌, refl, sym, ap, ◌∙◌}
 use mathlib.Core.Bool.{true, false}
@@ -9,15 +10,13 @@ use native.Mathlib.Omega.{arith}
 use lib.IntN.{ℤ, pos}
 use lib.ListN.{length, get_or}
 use lib.Signed.{◌<ℤ◌}
+use Rattle.show.specs.Outcomes.{Check}
 use Rattle.show.specs.declared.refusal.Refusal.{Refusal}
 use Rattle.show.specs.declared.refusal.Refusal.TheVariants as refusal
-use Rattle.show.specs.declared.refusal.Check.{Check}
-use Rattle.show.specs.declared.refusal.Check.TheVariants.{Within, Refused}
 use Rattle.show.specs.Checks.{first}
 use Rattle.show.proofs.Checks.{unless_kept, unless_broken, first_refused, first_within}
 use Rattle.theory.specs.Slack.{less?}
 use Rattle.theory.proofs.Slack.{rank_below, rank_apart}
-use Rattle.run.specs.declared.Underway.TheVariants as underway
 use Rattle.run.specs.declared.Run.{Run}
 use Rattle.run.specs.Run.{playing, clip_at, state_at, left_in}
 use Rattle.run.specs.Sound.{SoundRun, NamesEach}
@@ -27,8 +26,6 @@ use Rattle.state.proofs.States.{true_false}
 use Rattle.run.proofs.Orders.{names_below}
 use Rattle.run.proofs.Answered.{damaged_first, sound_then, granted, refused, moved_refused, moved_granted}
 use Rattle.run.specs.declared.Moved.{Moved}
-use Rattle.workahead.specs.declared.Spare.{Spare}
-use Rattle.workahead.specs.declared.Spare.TheVariants as spare
 use Rattle.standing.specs.Standing.{standing_of}
 use Rattle.workahead.specs.Answers.{ahead_for}
 use Rattle.standing.specs.Answers.{slack_for}
@@ -42,16 +39,16 @@ use Rattle.standing.proofs.Named.{named_each}
 -- ---- by the check
 
 abbrev timed : ℤ → Run → Spared
-timed z r = record { spare = spare.Time z; run = r }
+timed z r = record { spare = Ok z; run = r }
 
 abbrev untimed : Run → Refusal → Spared
-untimed r w = record { spare = spare.Refused w; run = r }
+untimed r w = record { spare = Err w; run = r }
 
 module _ (k : Check) (z : ℤ) (r : Run) where
-  spared_refused : (w : Refusal) → k ≡ Refused w → untimed r w ≡ spared k z r
+  spared_refused : (w : Refusal) → k ≡ Err w → untimed r w ≡ spared k z r
   spared_refused w e = ap (λ (x : Check). spared x z r) (sym e)
 
-  spared_timed : (y : ℤ) → k ≡ Within → y ≡ z → timed y r ≡ spared k z r
+  spared_timed : (y : ℤ) → k ≡ Ok tt → y ≡ z → timed y r ≡ spared k z r
   spared_timed y e f = ap (λ (x : ℤ). timed x r) f ∙ ap (λ (x : Check). spared x z r) (sym e)
 
 -- ---- workahead
@@ -74,10 +71,10 @@ module _ (r : Run) (i : ℕ) where
         spared_timed _ _ r z (sound_then r _ s ∙ unless_kept (dec_lt i (playing r)) refusal.NoSession l) e
 
     -- what `ahead_of` answers of its state
-    pub workahead_for : (a : Spare) → i < playing r → a ≡ ahead_for (clip_at r i) (state_at r i) → record { spare = a; run = r } ≡ workahead_of r i
+    pub workahead_for : (a : (Result ℤ Refusal)) → i < playing r → a ≡ ahead_for (clip_at r i) (state_at r i) → record { spare = a; run = r } ≡ workahead_of r i
     workahead_for a l e = ap answer (e ∙ sym (run_ahead r s i l)) ∙ workahead_time (ahead_at r i) l refl
       where
-        answer : Spare → Spared
+        answer : Result ℤ Refusal → Spared
         answer x = record { spare = x; run = r }
 
 -- ---- slack
@@ -87,10 +84,10 @@ module _ (r : Run) where
   unfolding slack_of
   slack_damaged n = spared_refused _ _ r refusal.Damaged (damaged_first r _ n)
 
-  nobody : playing r ≡ 0 → some_check r ≡ Refused refusal.NoSession
+  nobody : playing r ≡ 0 → some_check r ≡ Err refusal.NoSession
   nobody e = unless_broken (dec_lt 0 (playing r)) refusal.NoSession (λ g. let f : ⊥ = omega arith in f)
 
-  somebody : 0 < playing r → some_check r ≡ Within
+  somebody : 0 < playing r → some_check r ≡ Ok tt
   somebody l = unless_kept (dec_lt 0 (playing r)) refusal.NoSession l
 
   module _ (s : SoundRun r) where
@@ -103,14 +100,14 @@ module _ (r : Run) where
     slack_time_is z l e = spared_timed _ _ r z (sound_then r _ s ∙ somebody l) e
 
     -- the slack of its standing
-    pub slack_stood : (a : Spare) → a ≡ slack_for (standing_of r) → record { spare = a; run = r } ≡ slack_of r
+    pub slack_stood : (a : (Result ℤ Refusal)) → a ≡ slack_for (standing_of r) → record { spare = a; run = r } ≡ slack_of r
     slack_stood a e =
         elim (dec_lt 0 (playing r)) [
           | yes l ↦ ap answer (e ∙ sym (run_slack r s l)) ∙ slack_time_is (slack_time r) l refl
           | no n ↦ (let z : playing r ≡ 0 = omega arith in ap answer (e ∙ sym (run_nobody r s z)) ∙ slack_empty z)
         ]
       where
-        answer : Spare → Spared
+        answer : Result ℤ Refusal → Spared
         answer x = record { spare = x; run = r }
 
   -- ---- start
@@ -137,12 +134,12 @@ module _ (r : Run) where
       fresh : (c : Check) → first (once_check r) c ≡ c
       fresh c = first_within _ c (unless_kept (false? r.started) refusal.AlreadyStarted e)
 
-      pub start_busy : (i : ℕ) → r.underway ≡ underway.Read i → refused r refusal.ReadUnderway ≡ start_of r
+      pub start_busy : (i : ℕ) → r.underway ≡ Some i → refused r refusal.ReadUnderway ≡ start_of r
       unfolding start_of start_check
       start_busy i u =
           moved_refused _ r _ refusal.ReadUnderway (sound_then r _ s ∙ fresh _ ∙ first_refused _ _ (ap free_check u))
 
-      module _ (u : r.underway ≡ underway.Nothing) where
+      module _ (u : r.underway ≡ None) where
         free : (c : Check) → first (free_check r.underway) c ≡ c
         free c = first_within _ c (ap free_check u)
 

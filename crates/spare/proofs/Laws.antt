@@ -1,4 +1,5 @@
 -- Every call, granted or refused: workahead and slack hand the run back, and a start makes a sound run. Assumes nothing.
+use Rattle.std.specs.Prelude.{Ok, Err, None}
 use Prim.Native.Nat.{ℕ, ◌+◌, ◌*◌, ◌≤◌, ◌<◌}
 use mathlib.Core.Path.{◌≡◌, refl, sym, ap, ◌∙◌}
 use mathlib.Core.Bool.{false}
@@ -9,17 +10,15 @@ use native.Mathlib.Omega.{arith}
 use lib.IntN.{ℤ, pos}
 use lib.ListN.{length}
 use lib.Signed.{◌≤ℤ◌, ◌<ℤ◌, clash_ℤ}
+use Rattle.show.specs.Outcomes.{Check}
 use Rattle.show.specs.declared.refusal.Refusal.{Refusal}
 use Rattle.show.specs.declared.refusal.Refusal.TheVariants as refusal
-use Rattle.show.specs.declared.refusal.Check.{Check}
-use Rattle.show.specs.declared.refusal.Check.TheVariants.{Within, Refused}
 use Rattle.show.specs.Checks.{first}
 use Rattle.show.proofs.Checks.{within_refused, unless_within, first_left, first_right}
 use Rattle.theory.specs.Sum.{sum_to}
 use Rattle.theory.specs.Slack.{less?, slack_by}
 use Rattle.theory.proofs.Floor.{floor_from}
 use Rattle.theory.proofs.Slack.{slack_enough, claim_nine, rank_below}
-use Rattle.run.specs.declared.Underway.TheVariants as underway
 use Rattle.run.specs.declared.Run.{Run}
 use Rattle.run.specs.Run.{playing, state_at, clip_at}
 use Rattle.run.specs.Sound.{SoundRun}
@@ -32,7 +31,6 @@ use Rattle.run.proofs.Lefts.{left_within}
 use Rattle.run.proofs.Steps.{nothing_read}
 use Rattle.run.proofs.Answered.{moved_either, moved_back, free_nothing}
 use Rattle.run.specs.declared.Moved.{Moved}
-use Rattle.workahead.specs.declared.Spare.TheVariants as spare
 use Rattle.standing.specs.Times.{ahead_at, time_at, slack_time, place_at}
 use Rattle.spare.specs.Times.{start_order, running}
 use Rattle.spare.specs.Answers.{spared, workahead_of, some_check, slack_of, once_check, slack_check, start_check, start_of}
@@ -45,8 +43,8 @@ use Rattle.spare.proofs.Calls.{start_names, start_first, start_begins, begin_gra
 -- ---- workahead and slack
 
 spared_run : (k : Check) (z : ℤ) (r : Run) → (spared k z r).run ≡ r
-spared_run Within z r = refl
-spared_run (Refused w) z r = refl
+spared_run (Ok tt) z r = refl
+spared_run (Err w) z r = refl
 
 pub workahead_run : (r : Run) (i : ℕ) → (workahead_of r i).run ≡ r
 unfolding workahead_of
@@ -66,12 +64,12 @@ slack_most r place l = claim_nine place (ahead_at r) (time_at r) (playing r) l
 pub record Starts (r : Run) : Type 0 where
   pub sound : SoundRun r
   pub fresh : r.started ≡ false
-  pub free : r.underway ≡ underway.Nothing
+  pub free : r.underway ≡ None
   pub some : 0 < playing r
   pub enough : slack_time r <ℤ pos 0 → ⊥
 
 module _ (r : Run) where
-  pub starts : start_check r ≡ Within → Starts r
+  pub starts : start_check r ≡ Ok tt → Starts r
   unfolding start_check slack_check
   starts e =
       let last = first (some_check r) (slack_check r) in
@@ -123,26 +121,26 @@ module _ (r : Run) where
   unfolding start_of
   start_sound n s = moved_either (start_check r) r (running r) SoundRun s (λ e. running_sound n (starts e))
 
-  pub start_refused : (w : Refusal) → (start_of r).check ≡ Refused w → (start_of r).run ≡ r
+  pub start_refused : (w : Refusal) → (start_of r).check ≡ Err w → (start_of r).run ≡ r
   unfolding start_of
   start_refused = moved_back (start_check r) r (running r)
 
   -- Granted, it had not started before.
-  pub start_fresh : (start_of r).check ≡ Within → r.started ≡ false
+  pub start_fresh : (start_of r).check ≡ Ok tt → r.started ≡ false
   unfolding start_of
   start_fresh e = from (start_check r) refl e
     where
-      from : (k : Check) → start_check r ≡ k → (moved k r (running r)).check ≡ Within → r.started ≡ false
-      from Within f g = (starts f).fresh
-      from (Refused w) f g = within_refused (sym g)
+      from : (k : Check) → start_check r ≡ k → (moved k r (running r)).check ≡ Ok tt → r.started ≡ false
+      from (Ok tt) f g = (starts f).fresh
+      from (Err w) f g = within_refused (sym g)
 
-  pub start_granted : (start_of r).check ≡ Within → Started r (start_of r).run
+  pub start_granted : (start_of r).check ≡ Ok tt → Started r (start_of r).run
   unfolding start_of
   start_granted e = from (start_check r) e
     where
-      from : (k : Check) → (moved k r (running r)).check ≡ Within → Started r (moved k r (running r)).run
-      from Within f = running_started
-      from (Refused w) f = within_refused (sym f)
+      from : (k : Check) → (moved k r (running r)).check ≡ Ok tt → Started r (moved k r (running r)).run
+      from (Ok tt) f = running_started
+      from (Err w) f = within_refused (sym f)
 
   -- More than a round ahead everywhere: the start is granted.
   module _ (s : SoundRun r) (l : 0 < playing r) (ahead : (i : ℕ) → i < playing r → Ahead r i) where
@@ -159,24 +157,24 @@ module _ (r : Run) where
     pub far_slack : pos 0 ≤ℤ slack_time r
     far_slack = slack_enough _ (ahead_at r) (time_at r) (playing r) l far
 
-    pub far_starts : r.started ≡ false → r.underway ≡ underway.Nothing → (start_of r).check ≡ Within
+    pub far_starts : r.started ≡ false → r.underway ≡ None → (start_of r).check ≡ Ok tt
     far_starts e u =
         ap (λ (m : Moved). m.check)
         (sym (start_begins r s e u _ l (begin_granted r (running r) (λ n. clash_ℤ n far_slack) refl)))
 
 -- ---- a time that was told
 
-time_told : (k : Check) (z y : ℤ) (r : Run) → (spared k z r).spare ≡ spare.Time y → (k ≡ Within) × (y ≡ z)
-time_told Within z y r e = (refl, (let f : z ≡ y = cc in sym f))
-time_told (Refused w) z y r e = absurd (let z : ◌≡◌ {A = ℕ} 0 1 = cc in let f : ⊥ = omega arith in f)
+time_told : (k : Check) (z y : ℤ) (r : Run) → (spared k z r).spare ≡ Ok y → (k ≡ Ok tt) × (y ≡ z)
+time_told (Ok tt) z y r e = (refl, (let f : z ≡ y = cc in sym f))
+time_told (Err w) z y r e = absurd (let z : ◌≡◌ {A = ℕ} 0 1 = cc in let f : ⊥ = omega arith in f)
 
-pub workahead_told : (r : Run) (i : ℕ) (y : ℤ) → (workahead_of r i).spare ≡ spare.Time y → (i < playing r) × (y ≡ ahead_at r i)
+pub workahead_told : (r : Run) (i : ℕ) (y : ℤ) → (workahead_of r i).spare ≡ Ok y → (i < playing r) × (y ≡ ahead_at r i)
 unfolding workahead_of
 workahead_told r i y e =
     let t = time_told (first (sound_check r) (present_check r i)) (ahead_at r i) y r e in
     (unless_within (dec_lt i (playing r)) refusal.NoSession (first_right (sound_check r) (present_check r i) t.0), t.1)
 
-pub slack_told : (r : Run) (y : ℤ) → (slack_of r).spare ≡ spare.Time y → (0 < playing r) × (y ≡ slack_time r)
+pub slack_told : (r : Run) (y : ℤ) → (slack_of r).spare ≡ Ok y → (0 < playing r) × (y ≡ slack_time r)
 unfolding slack_of
 slack_told r y e =
     let t = time_told (first (sound_check r) (some_check r)) (slack_time r) y r e in

@@ -1,10 +1,9 @@
 -- What each call answers: docs/RULES.md, section 10.
-use Rattle.std.specs.Prelude.{ℕ, ℤ, pos}
+use Rattle.std.specs.Prelude.{ℕ, ℤ, pos, Ok, Err, false}
 use Rattle.std.proofs.Math.Logic.{ite}
 use Rattle.std.proofs.Math.Decide.{dec_lt}
+use Rattle.show.specs.Outcomes.{Check}
 use Rattle.show.specs.declared.refusal.Refusal.TheVariants as refusal
-use Rattle.show.specs.declared.refusal.Check.{Check}
-use Rattle.show.specs.declared.refusal.Check.TheVariants.{Within, Refused}
 use Rattle.show.specs.Checks.{unless, first}
 use Rattle.theory.specs.Slack.{less?}
 use Rattle.run.specs.declared.Run.{Run}
@@ -13,15 +12,14 @@ use Rattle.state.specs.Decisions.{false?}
 use Rattle.run.specs.Decisions.{sound_check}
 use Rattle.run.specs.Answers.{moved, present_check, free_check}
 use Rattle.run.specs.declared.Moved.{Moved}
-use Rattle.workahead.specs.declared.Spare.TheVariants as spare
 use Rattle.standing.specs.Times.{ahead_at, slack_time}
 use Rattle.spare.specs.declared.Spared.{Spared}
 use Rattle.spare.specs.Times.{running}
 
 -- A time, or why there is none; the run as it was given in either case.
 abbrev pub spared : Check → ℤ → Run → Spared
-spared Within z r = record { spare = spare.Time z; run = r }
-spared (Refused w) z r = record { spare = spare.Refused w; run = r }
+spared (Ok tt) z r = record { spare = Ok z; run = r }
+spared (Err w) z r = record { spare = Err w; run = r }
 
 -- 19, 9
 unfoldable pub workahead_of : Run → ℕ → Spared
@@ -41,7 +39,7 @@ once_check r = unless (false? r.started) refusal.AlreadyStarted
 
 -- 15: negative slack
 unfoldable pub slack_check : Run → Check
-slack_check r = ite (less? (slack_time r) (pos 0)) (Refused refusal.NegativeSlack) Within
+slack_check r = ite (less? (slack_time r) (pos 0)) (Err refusal.NegativeSlack) (Ok tt)
 
 -- 19, 18, 13, 9, 15
 unfoldable pub start_check : Run → Check

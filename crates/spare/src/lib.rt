@@ -12,16 +12,16 @@ ghost use Rattle.spare.specs.Times.{running};
 ghost use Rattle.spare.specs.Answers.{workahead_of, slack_of, some_check, slack_check, start_of};
 
 use order::ordered;
-use run::{Moved, Run, Underway, left_in};
+use run::{Moved, Run, left_in};
 use run_test::{Test, test_run};
-use show::refusal::{Check, Refusal};
+use show::refusal::Refusal;
 use standing::{Standing, slack_in, stand};
-use workahead::{Spare, ahead_of};
+use workahead::ahead_of;
 
 // The answer, and the run as it was given.
 #[derive(Clone, Copy)]
 pub struct Spared {
-    pub spare: Spare,
+    pub spare: Result<i64, Refusal>,
     pub run: Run,
 }
 
@@ -31,13 +31,13 @@ pub fn workahead(run: Run, session: usize) -> Spared
 {
     let Test::Sound = test_run(run) else {
         return Spared {
-            spare: Spare::Refused(Refusal::Damaged),
+            spare: Err(Refusal::Damaged),
             run,
         };
     };
     if run.show.playing <= session {
         return Spared {
-            spare: Spare::Refused(Refusal::NoSession),
+            spare: Err(Refusal::NoSession),
             run,
         };
     }
@@ -54,9 +54,9 @@ pub fn slack(run: Run) -> Spared
 {
     let stood = stand(run);
     let check = stood.check;
-    let Check::Within = check else {
+    let Ok(()) = check else {
         return Spared {
-            spare: Spare::Refused(Refusal::Damaged),
+            spare: Err(Refusal::Damaged),
             run,
         };
     };
@@ -72,22 +72,22 @@ pub fn start(run: Run) -> Moved
 {
     let stood = stand(run);
     let check = stood.check;
-    let Check::Within = check else {
+    let Ok(()) = check else {
         return Moved {
-            check: Check::Refused(Refusal::Damaged),
+            check: Err(Refusal::Damaged),
             run,
         };
     };
     if run.started {
         return Moved {
-            check: Check::Refused(Refusal::AlreadyStarted),
+            check: Err(Refusal::AlreadyStarted),
             run,
         };
     }
     let underway = run.underway;
-    let Underway::Nothing = underway else {
+    let None = underway else {
         return Moved {
-            check: Check::Refused(Refusal::ReadUnderway),
+            check: Err(Refusal::ReadUnderway),
             run,
         };
     };
@@ -99,21 +99,21 @@ fn begin(run: Run, standing: Standing) -> Moved
     requires { SoundRun run × (standing ≡ standing_of run) }
     ensures { result ≡ moved (first (some_check run) (slack_check run)) run (running run) }
 {
-    let Spare::Time(spare) = slack_in(standing) else {
+    let Ok(spare) = slack_in(standing) else {
         return Moved {
-            check: Check::Refused(Refusal::NoSession),
+            check: Err(Refusal::NoSession),
             run,
         };
     };
     if spare < 0 {
         return Moved {
-            check: Check::Refused(Refusal::NegativeSlack),
+            check: Err(Refusal::NegativeSlack),
             run,
         };
     }
     let places = standing.places;
     Moved {
-        check: Check::Within,
+        check: Ok(()),
         run: cycling(run, places),
     }
 }

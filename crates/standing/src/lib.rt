@@ -14,9 +14,9 @@ use crate::least::least;
 use order::places;
 use run::Run;
 use run_test::{Test, test_run};
-use show::refusal::{Check, Refusal};
+use show::refusal::Refusal;
 use trial::tried;
-use workahead::{Spare, ahead_of};
+use workahead::ahead_of;
 
 // The workahead, the worst time and the place of each session.
 #[derive(Clone, Copy)]
@@ -30,7 +30,7 @@ pub struct Standing {
 // How the sessions stand, or why that is not told.
 #[derive(Clone, Copy)]
 pub struct Stood {
-    pub check: Check,
+    pub check: Result<(), Refusal>,
     pub standing: Standing,
 }
 
@@ -40,27 +40,27 @@ pub fn stand(run: Run) -> Stood
 {
     let Test::Sound = test_run(run) else {
         return Stood {
-            check: Check::Refused(Refusal::Damaged),
+            check: Err(Refusal::Damaged),
             standing: nobody(),
         };
     };
     Stood {
-        check: Check::Within,
+        check: Ok(()),
         standing: survey(run),
     }
 }
 
 // What a standing has to spare, each session at its place: 19 where a number is too large or two share a place, 9.
-pub fn slack_in(standing: Standing) -> Spare
+pub fn slack_in(standing: Standing) -> Result<i64, Refusal>
     ensures { result ≡ slack_for standing }
 {
     if !is_fit(standing) {
-        return Spare::Refused(Refusal::Damaged);
+        return Err(Refusal::Damaged);
     }
     if standing.playing == 0 {
-        return Spare::Refused(Refusal::NoSession);
+        return Err(Refusal::NoSession);
     }
-    Spare::Time(least(standing))
+    Ok(least(standing))
 }
 
 // Zeros throughout, for an answer that has no standing.
@@ -102,7 +102,7 @@ fn aheads(run: Run) -> [i64; 16]
     let mut aheads: [i64; 16] = [0; 16];
     let mut i: usize = 0;
     while i < show.playing {
-        let Spare::Time(ahead) = ahead_of(show.sessions[i], run.states[i]) else {
+        let Ok(ahead) = ahead_of(show.sessions[i], run.states[i]) else {
             return aheads;
         };
         aheads[i] = ahead;

@@ -1,10 +1,10 @@
 -- What is told, from the text that was put; and that there is one answer. Assumes nothing.
+use Rattle.std.specs.Prelude.{Ok}
 use Prim.Native.Nat.{ℕ, ◌≤◌}
 use mathlib.Core.Path.{◌≡◌, refl, ap, ◌∙◌}
 use mathlib.Core.List.{List}
 use native.Mathlib.Omega.{arith}
 use lib.ListN.{length}
-use Rattle.show.specs.declared.refusal.Check.TheVariants.{Within}
 use Rattle.showfile.specs.declared.Written.{Written}
 use Rattle.showfile.specs.Answers.{written, written_over}
 use Rattle.showfile.proofs.ByteLaws.{over_front}
@@ -12,11 +12,11 @@ use Rattle.text.specs.Told.{ToldIs, told, short, Texted}
 
 module _ (is : List ℕ → Type 0) (most : ℕ) where
   -- The text that was put is what is told.
-  pub told_put : (was after : List ℕ) (n : ℕ) → Texted is was after n → most ≤ length was → ToldIs is most was (written Within n) after
+  pub told_put : (was after : List ℕ) (n : ℕ) → Texted is was after n → most ≤ length was → ToldIs is most was (written (Ok tt) n) after
   told_put was after n h room =
       let u = h.put.upto in
       let e : n ≡ length h.text = omega arith in
-      let x : after ≡ written_over Within h.text was = h.put.bytes ∙ over_front was h.text in
+      let x : after ≡ written_over (Ok tt) h.text was = h.put.bytes ∙ over_front was h.text in
       rw (e, x) (told h.text h.holds room)
 
   -- What is told ends inside the buffer, where no text is longer than `most`.
@@ -32,7 +32,7 @@ module _ (is : List ℕ → Type 0) (most : ℕ) where
       (b : List ℕ) (r s : Written) (x y : List ℕ) → ToldIs is most b r x → ToldIs is most b s y → (r ≡ s) × (x ≡ y)
   told_once one b r s x y (told t h l) (told u g m) =
       let e = one t u h g in
-      (ap (λ (v : List ℕ). written Within (length v)) e, ap (λ (v : List ℕ). written_over Within v b) e)
+      (ap (λ (v : List ℕ). written (Ok tt) (length v)) e, ap (λ (v : List ℕ). written_over (Ok tt) v b) e)
   told_once one b r s x y (told t h l) (short m) = absurd (let z : ⊥ = omega arith in z)
   told_once one b r s x y (short l) (told u g m) = absurd (let z : ⊥ = omega arith in z)
   told_once one b r s x y (short l) (short m) = (refl, refl)

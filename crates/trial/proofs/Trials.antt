@@ -1,10 +1,12 @@
 -- Whether given counts hold, by their times. Assumes nothing.
+use Rattle.std.specs.Prelude.{Ok, Result, Bool, true, false}
 use Prim.Native.Nat.{ℕ, ◌+◌, ◌≤◌, ◌<◌}
 use mathlib.Core.Path.{◌≡◌, sym, subst}
 use mathlib.Core.List.{List}
 use native.Mathlib.Omega.{arith}
 use native.Mathlib.Nat.{le_trans}
 use borrow.Author.Count.{below_more}
+use Rattle.show.specs.declared.refusal.Refusal.{Refusal}
 use Rattle.show.specs.declared.Show.{Show}
 use Rattle.show.specs.Limits.{ShowWithin, session_at}
 use Rattle.theory.specs.Counts.{unit, round_time, Good}
@@ -14,8 +16,6 @@ use Rattle.theory.proofs.Shows.{show_sound}
 use Rattle.verdict.specs.Answers.{times_of, set_of}
 use Rattle.trial.specs.Answers.{trial_of, timed_as, TrialIs, holds, fails}
 use Rattle.trial.specs.Steps.{Held, Holds}
-use Rattle.trial.specs.declared.Answer.{Answer}
-use Rattle.trial.specs.declared.Answer.TheVariants as answer
 
 pub record HeldTo (s : Show) (t : ℕ) (m : ℕ → ℕ) (i : ℕ) : Type 0 where
   pub inside : i ≤ s.playing
@@ -59,15 +59,15 @@ module _
     (s : Show) (w : ShowWithin s) (m : List ℕ) (round : ℕ) (times : List ℕ) (e : round ≡ round_time (load_of s) (set_of m))
     (f : times ≡ times_of (load_of s) (set_of m))
   where
-    same : (a : Answer) → trial_of a round times ≡ timed_as a (load_of s) (set_of m)
+    same : (a : (Result Bool Refusal)) → trial_of a round times ≡ timed_as a (load_of s) (set_of m)
     same a = λ i. record { answer = a; round = e i; times = f i }
 
     abbrev Over : ℕ → Type 0
     Over t = Holds (load_of s) t (set_of m)
 
-    pub trial_holds : Over round → TrialIs s m (trial_of answer.Holds round times)
-    trial_holds h = subst (TrialIs s m) (sym (same answer.Holds)) (holds w (holds_good s w (set_of m) (subst Over e h)))
+    pub trial_holds : Over round → TrialIs s m (trial_of (Ok true) round times)
+    trial_holds h = subst (TrialIs s m) (sym (same (Ok true))) (holds w (holds_good s w (set_of m) (subst Over e h)))
 
-    pub trial_fails : (Over round → ⊥) → TrialIs s m (trial_of answer.Fails round times)
+    pub trial_fails : (Over round → ⊥) → TrialIs s m (trial_of (Ok false) round times)
     trial_fails none =
-        subst (TrialIs s m) (sym (same answer.Fails)) (fails w (λ g. none (subst Over (sym e) (good_holds s w (set_of m) g))))
+        subst (TrialIs s m) (sym (same (Ok false))) (fails w (λ g. none (subst Over (sym e) (good_holds s w (set_of m) g))))

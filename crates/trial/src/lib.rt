@@ -8,23 +8,14 @@ ghost use Rattle.trial.specs.Answers.{TrialIs, trial_of};
 ghost use Rattle.trial.specs.Steps.{Held};
 
 use cost::Cost;
-use cost::worst::Worst;
-use count::{Asked, fits, need};
-use show::refusal::{Check, Refusal};
+use count::{fits, need};
+use show::refusal::Refusal;
 use show::{Session, Show};
-
-// Whether given counts are a feasible workahead-augmenting set.
-#[derive(Clone, Copy)]
-pub enum Answer {
-    Holds,
-    Fails,
-    Refused(Refusal),
-}
 
 // L of given counts and the worst time of each; zeros above the session count, and everywhere if refused.
 #[derive(Clone, Copy)]
 pub struct Trial {
-    pub answer: Answer,
+    pub answer: Result<bool, Refusal>,
     pub round: u64,
     pub times: [u64; 16],
 }
@@ -34,8 +25,8 @@ pub fn tried(show: Show, counts: [u32; 16]) -> Trial
     ensures { TrialIs show counts result }
 {
     let check = show.check();
-    if let Check::Refused(why) = check {
-        return timed(Answer::Refused(why), 0, [0; 16]);
+    if let Err(why) = check {
+        return timed(Err(why), 0, [0; 16]);
     }
     let drive = show.drive;
     let mut round: u64 = 0;
@@ -46,8 +37,8 @@ pub fn tried(show: Show, counts: [u32; 16]) -> Trial
         let at = session.layout as usize;
         let cost = Cost::of_read(show.layouts[at]);
         let worst = cost.takes(drive.cylinder, counts[i]);
-        let Worst::Takes(time) = worst else {
-            return timed(Answer::Fails, 0, times);
+        let Ok(time) = worst else {
+            return timed(Ok(false), 0, times);
         };
         times[i] = time;
         round += time;
@@ -56,14 +47,14 @@ pub fn tried(show: Show, counts: [u32; 16]) -> Trial
     let mut k: usize = 0;
     while k < show.playing {
         if !held(drive.block, show.sessions[k], round, counts[k]) {
-            return timed(Answer::Fails, round, times);
+            return timed(Ok(false), round, times);
         }
         k += 1;
     }
-    timed(Answer::Holds, round, times)
+    timed(Ok(true), round, times)
 }
 
-fn timed(answer: Answer, round: u64, times: [u64; 16]) -> Trial
+fn timed(answer: Result<bool, Refusal>, round: u64, times: [u64; 16]) -> Trial
     ensures { result ≡ trial_of answer round times }
 {
     Trial {
@@ -82,7 +73,7 @@ fn held(block: u32, session: Session, t: u64, count: u32) -> bool
         return false;
     }
     let asked = need(session.rate, block, t);
-    let Asked::Count(least) = asked else {
+    let Ok(least) = asked else {
         return false;
     };
     if (count as u64) < least {

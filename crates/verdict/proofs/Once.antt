@@ -1,9 +1,9 @@
 -- Two answers that meet one statement are equal. Assumes nothing.
+use Rattle.std.specs.Prelude.{Ok, Err}
 use Prim.Native.Nat.{ℕ, ◌<◌}
 use mathlib.Core.Path.{◌≡◌, refl, sym, ◌∙◌, ap}
 use Rattle.show.specs.declared.Show.{Show}
 use Rattle.show.specs.declared.refusal.Refusal.{Refusal}
-use Rattle.show.specs.declared.refusal.Check.TheVariants.{Refused}
 use Rattle.show.specs.Limits.{ShowWithin}
 use Rattle.show.specs.Checks.{show_check}
 use Rattle.show.specs.Lists.{padded}
@@ -13,25 +13,24 @@ use Rattle.show.proofs.Shows.{within_check}
 use Rattle.theory.specs.Counts.{Load}
 use Rattle.theory.specs.Shows.{load_of}
 use Rattle.theory.proofs.Rounds.{smallest_once, round_same}
-use Rattle.verdict.specs.declared.Verdict.TheVariants.{Accepted}
 use Rattle.verdict.specs.declared.Decision.{Decision}
 use Rattle.verdict.specs.Answers.{DecisionIs, accepted, no_set, outside, accepted_with, refused_for}
 use Rattle.verdict.proofs.Sets.{times_same}
 
 -- A show within the limits is not refused for them.
-pub within_outside : {X : Type 0} (s : Show) (w : Refusal) → ShowWithin s → show_check s ≡ Refused w → X
+pub within_outside : {X : Type 0} (s : Show) (w : Refusal) → ShowWithin s → show_check s ≡ Err w → X
 within_outside s w h e = within_refused (sym (within_check s h) ∙ e)
 
 -- One refusal of the limits.
-pub outside_once : (s : Show) (v w : Refusal) → show_check s ≡ Refused v → show_check s ≡ Refused w → v ≡ w
-outside_once s v w e f = let g : Refused v ≡ Refused w = sym e ∙ f in cc
+pub outside_once : (s : Show) (v w : Refusal) → show_check s ≡ Err v → show_check s ≡ Err w → v ≡ w
+outside_once s v w e f = let g : Err v ≡ Err w = sym e ∙ f in cc
 
 -- Sets that agree at every session are answered alike.
 pub accepted_same : (l : Load) (m o : ℕ → ℕ) → ((i : ℕ) → i < l.playing → m i ≡ o i) → accepted_with l m ≡ accepted_with l o
 accepted_same l m o h =
     λ i.
     record {
-      verdict = Accepted;
+      verdict = Ok tt;
       round = round_same l m o h i;
       counts = ap (padded 16 0) (listed_same m o l.playing h) i;
       times = times_same l m o h i;

@@ -1,4 +1,5 @@
 -- Sets as rows: the counts that a time asks for, and the times of given counts. Assumes nothing.
+use Rattle.std.specs.Prelude.{Ok}
 use Prim.Native.Nat.{ℕ, ◌+◌, ◌*◌, ◌≤◌, ◌<◌}
 use mathlib.Core.Path.{◌≡◌, sym, ◌∙◌, ap, subst}
 use mathlib.Core.List.{List}
@@ -13,7 +14,6 @@ use Rattle.cost.specs.Bound.{worst_time}
 use Rattle.cost.specs.declared.Cost.{Cost}
 use Rattle.cost.specs.Costs.{read_cost}
 use Rattle.cost.specs.WorstTimes.{takes_of}
-use Rattle.cost.specs.declared.worst.Worst.TheVariants as worst
 use Rattle.cost.proofs.Bound.{worst_below}
 use Rattle.cost.proofs.Costs.{cost_read, read_limited}
 use Rattle.cost.proofs.WorstTimes.{takes_is}
@@ -69,7 +69,7 @@ times_body s f sum out i u w h l e g =
 
 -- What `takes` answers of reads on a layout within its limits: U, small enough for the sum of a round.
 pub takes_told :
-    (x : Layout) (N n t : ℕ) → LayoutWithin x → Between 1 N 65536 → n ≤ 4294967295 → takes_of (read_cost x) N n ≡ worst.Takes t →
+    (x : Layout) (N n t : ℕ) → LayoutWithin x → Between 1 N 65536 → n ≤ 4294967295 → takes_of (read_cost x) N n ≡ Ok t →
     (t ≡ worst_time N (read_cost x) n) × (t ≤ time_most)
 takes_told x N n t w b few told =
     let l = read_limited x w in

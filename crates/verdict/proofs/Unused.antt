@@ -1,4 +1,5 @@
 -- Nothing looks at unused places: shows that agree below their counts are answered alike. Assumes nothing.
+use Rattle.std.specs.Prelude.{Ok}
 use Prim.Native.Nat.{ℕ, ◌<◌}
 use mathlib.Core.Path.{◌≡◌, sym, ◌∙◌, ap, subst}
 use Rattle.show.specs.declared.Drive.{Drive}
@@ -16,7 +17,6 @@ use Rattle.theory.specs.Counts.{round_time}
 use Rattle.theory.specs.Shows.{load_of}
 use Rattle.theory.proofs.Sum.{sum_same}
 use Rattle.theory.proofs.Shows.{alike_back, alike_good, alike_smallest}
-use Rattle.verdict.specs.declared.Verdict.TheVariants.{Accepted}
 use Rattle.verdict.specs.declared.Decision.{Decision}
 use Rattle.verdict.specs.Answers.{DecisionIs, accepted, no_set, outside, row, times_of, accepted_with}
 
@@ -43,7 +43,7 @@ module _ (s t : Show) (a : Alike s t) (w : ShowWithin s) where
         ∙ ap (λ (n : ℕ). padded 16 0 (listed (λ i. ((load_of t).stream i).time (m i)) n)) a.playing
 
     accepted_alike : accepted_with (load_of s) m ≡ accepted_with (load_of t) m
-    accepted_alike = λ i. record { verdict = Accepted; round = round_alike i; counts = counts_alike i; times = times_alike i }
+    accepted_alike = λ i. record { verdict = Ok tt; round = round_alike i; counts = counts_alike i; times = times_alike i }
 
 pub alike_decision : (s t : Show) → Alike s t → (d : Decision) → DecisionIs s d → DecisionIs t d
 alike_decision s t a d (accepted m w h) =

@@ -1,5 +1,5 @@
 -- What the private functions ask and answer.
-use Rattle.std.specs.Prelude.{ℕ, ◌+◌, ◌*◌, ◌≤◌, ◌<◌, ◌↔◌}
+use Rattle.std.specs.Prelude.{ℕ, ◌+◌, ◌*◌, ◌≤◌, ◌<◌, ◌↔◌, Some, None, Option}
 use Rattle.show.specs.declared.Session.{Session}
 use Rattle.show.specs.declared.Show.{Show}
 use Rattle.show.specs.Limits.{Between, block_least, block_most, buffer_most, session_at}
@@ -8,8 +8,6 @@ use Rattle.theory.specs.Counts.{Accepted}
 use Rattle.theory.specs.Rounds.{need, Fits, LeastTime}
 use Rattle.theory.specs.Shows.{load_of}
 use Rattle.count.specs.Answers.{Buffered}
-use Rattle.verdict.specs.declared.round.Turn.{Turn}
-use Rattle.verdict.specs.declared.round.Turn.TheVariants.{Takes, Full}
 
 -- A round of counts that fit takes less than this ..
 abbrev pub round_most : ℕ
@@ -47,6 +45,6 @@ pub record Settled (s : Show) (t : ℕ) : Type 0 where
   pub fits : Fits (load_of s) t
   pub small : t < round_most
 
-abbrev pub SettledAs : Show → Turn → Type 0
-SettledAs s (Takes t) = Settled s t
-SettledAs s Full = Accepted (load_of s) → ⊥
+abbrev pub SettledAs : Show → Option ℕ → Type 0
+SettledAs s (Some t) = Settled s t
+SettledAs s None = Accepted (load_of s) → ⊥

@@ -8,8 +8,7 @@ ghost use Rattle.count.specs.Answers.{BlockWithin, RateWithin};
 ghost use Rattle.verdict.specs.Steps.{time_most};
 
 use cost::Cost;
-use cost::worst::Worst;
-use count::{Asked, need};
+use count::need;
 use show::Layout;
 
 // U(n) of reads on a layout.
@@ -19,7 +18,7 @@ pub(crate) fn takes(layout: Layout, cylinder: u32, n: u32) -> u64
 {
     let cost = Cost::of_read(layout);
     let worst = cost.takes(cylinder, n);
-    let Worst::Takes(t) = worst else {
+    let Ok(t) = worst else {
         return 0;
     };
     t
@@ -31,7 +30,7 @@ pub(crate) fn asks(rate: u32, block: u32, t: u64) -> u64
     ensures { result ≡ need rate (block * 1000000) t }
 {
     let asked = need(rate, block, t);
-    let Asked::Count(m) = asked else {
+    let Ok(m) = asked else {
         return 0;
     };
     m

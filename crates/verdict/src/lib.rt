@@ -12,20 +12,14 @@ ghost use Rattle.verdict.specs.Answers.{DecisionIs, accepted_with, refused_for};
 ghost use Rattle.verdict.specs.Steps.{Settled};
 
 use crate::known::{asks, takes};
-use crate::round::{Turn, settle};
+use crate::round::settle;
 use show::Show;
-use show::refusal::{Check, Refusal};
-
-#[derive(Clone, Copy)]
-pub enum Verdict {
-    Accepted,
-    Refused(Refusal),
-}
+use show::refusal::Refusal;
 
 // L, and each session's count and the worst time for it; zeros above the session count, and everywhere if refused.
 #[derive(Clone, Copy)]
 pub struct Decision {
-    pub verdict: Verdict,
+    pub verdict: Result<(), Refusal>,
     pub round: u64,
     pub counts: [u32; 16],
     pub times: [u64; 16],
@@ -36,11 +30,11 @@ pub fn decide(show: Show) -> Decision
     ensures { DecisionIs show result }
 {
     let check = show.check();
-    if let Check::Refused(why) = check {
+    if let Err(why) = check {
         return refused(why);
     }
     let settled = settle(show);
-    let Turn::Takes(t) = settled else {
+    let Some(t) = settled else {
         return refused(Refusal::NoSet);
     };
     accepted(show, t)
@@ -68,7 +62,7 @@ fn accepted(show: Show, t: u64) -> Decision
         i += 1;
     }
     Decision {
-        verdict: Verdict::Accepted,
+        verdict: Ok(()),
         round,
         counts,
         times,
@@ -79,7 +73,7 @@ fn refused(why: Refusal) -> Decision
     ensures { result ≡ refused_for why }
 {
     Decision {
-        verdict: Verdict::Refused(why),
+        verdict: Err(why),
         round: 0,
         counts: [0; 16],
         times: [0; 16],

@@ -8,13 +8,6 @@ ghost use Rattle.verdict.specs.Steps.{Lasting, SoonerIs, EndIs, rates_of, Settle
 use crate::known::takes;
 use show::{Session, Show};
 
-// How long a round takes, or that a count in it does not fit its buffer.
-#[derive(Clone, Copy)]
-pub(crate) enum Turn {
-    Takes(u64),
-    Full,
-}
-
 // Past every round of counts that fit.
 const END_MOST: u64 = 1_000_000_000_000_000;
 
@@ -69,7 +62,7 @@ fn rates_of(show: Show) -> [u64; 16]
 
 // The time t at which the counts that t asks for take no longer than t; none, once a count does not fit. A count that is still
 // ahead stays, and a longer time counts at once for the sessions after it. Both loops stand here so that no turn copies the show.
-pub(crate) fn settle(show: Show) -> Turn
+pub(crate) fn settle(show: Show) -> Option<u64>
     requires { ShowWithin show }
     ensures { SettledAs show result }
 {
@@ -77,7 +70,7 @@ pub(crate) fn settle(show: Show) -> Turn
     let unit = drive.block as u64 * 1_000_000;
     let end = end_of(show);
     if end == 0 {
-        return Turn::Full;
+        return None;
     }
     let rates = rates_of(show);
     let mut covered: [u64; 16] = [0; 16];
@@ -95,7 +88,7 @@ pub(crate) fn settle(show: Show) -> Turn
                 let time = takes(show.layouts[at], drive.cylinder, count as u32);
                 t = t - times[i] + time;
                 if end <= t {
-                    return Turn::Full;
+                    return None;
                 }
                 covered[i] = count * unit;
                 times[i] = time;
@@ -103,7 +96,7 @@ pub(crate) fn settle(show: Show) -> Turn
             i += 1;
         }
         if t <= before {
-            return Turn::Takes(t);
+            return Some(t);
         }
     }
 }

@@ -1,22 +1,20 @@
 -- What asking for a workahead answers: docs/RULES.md, section 10.
-use Rattle.std.specs.Prelude.{[], ◌∷◌, ℤ}
+use Rattle.std.specs.Prelude.{[], ◌∷◌, ℤ, Ok, Err, Result}
 use Rattle.std.proofs.Math.Decide.{dec_lt}
+use Rattle.show.specs.Outcomes.{Check}
+use Rattle.show.specs.declared.refusal.Refusal.{Refusal}
 use Rattle.show.specs.declared.Session.{Session}
 use Rattle.show.specs.declared.refusal.Refusal.TheVariants as refusal
-use Rattle.show.specs.declared.refusal.Check.{Check}
-use Rattle.show.specs.declared.refusal.Check.TheVariants.{Within, Refused}
 use Rattle.show.specs.Checks.{unless, first}
 use Rattle.show.specs.Outcomes.{Outcome, granted, refused_by}
 use Rattle.state.specs.declared.State.{State}
-use Rattle.workahead.specs.declared.Spare.{Spare}
-use Rattle.workahead.specs.declared.Spare.TheVariants as spare
 use Rattle.workahead.specs.Times.{ahead_by_state}
 use Rattle.workahead.specs.Decisions.{countable?}
 
 -- a time, or why there is none
-abbrev pub timed : Check → ℤ → Spare
-timed Within z = spare.Time z
-timed (Refused w) z = spare.Refused w
+abbrev pub timed : Check → ℤ → Result ℤ Refusal
+timed (Ok tt) z = Ok z
+timed (Err w) z = Err w
 
 -- 7: a rate of 0
 abbrev pub plays_check : Session → Check
@@ -27,10 +25,10 @@ abbrev pub countable_check : State → Check
 countable_check s = unless (countable? s) refusal.Damaged
 
 -- 7, 19
-unfoldable pub ahead_for : Session → State → Spare
+unfoldable pub ahead_for : Session → State → Result ℤ Refusal
 ahead_for x s = timed (first (plays_check x) (countable_check s)) (ahead_by_state x s)
 
 -- the time in µs, or the refusal
-abbrev pub spare_outcome : Spare → Outcome
-spare_outcome (spare.Time z) = granted (z ∷ [])
-spare_outcome (spare.Refused w) = refused_by w
+abbrev pub spare_outcome : Result ℤ Refusal → Outcome
+spare_outcome (Ok z) = granted (z ∷ [])
+spare_outcome (Err w) = refused_by w

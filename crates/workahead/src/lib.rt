@@ -11,13 +11,6 @@ use show::Session;
 use show::refusal::Refusal;
 use state::State;
 
-// A time in µs, which may be below zero, or why there is none.
-#[derive(Clone, Copy)]
-pub enum Spare {
-    Time(i64),
-    Refused(Refusal),
-}
-
 // How many µs a time is, above zero or below.
 pub fn magnitude(t: i64) -> u64
     ensures { result ≡ nat_abs t }
@@ -30,19 +23,19 @@ pub fn magnitude(t: i64) -> u64
 }
 
 // How far a session in this state is ahead of its player: 7 of a rate of 0, 19 of a state that no run has.
-pub fn ahead_of(session: Session, state: State) -> Spare
+pub fn ahead_of(session: Session, state: State) -> Result<i64, Refusal>
     ensures { result ≡ ahead_for session state }
 {
     if session.rate == 0 {
-        return Spare::Refused(Refusal::SessionLimits(0));
+        return Err(Refusal::SessionLimits(0));
     }
     if State::PUT_MOST < state.put {
-        return Spare::Refused(Refusal::Damaged);
+        return Err(Refusal::Damaged);
     }
     if State::PUT_MOST * 1_000_000 < state.clock {
-        return Spare::Refused(Refusal::Damaged);
+        return Err(Refusal::Damaged);
     }
-    Spare::Time(ahead(state, session))
+    Ok(ahead(state, session))
 }
 
 // x / r rounded down: toward zero, and one less where the remainder is below zero.

@@ -18,13 +18,13 @@ returns-then-round-lt1 c =
 
 pub code-requires : goal.code-requires
 code-requires c =
-    decision_small _ c.decided-decision.result c.decided-decision.ensures c.in-Refused.is
+    decision_small _ c.decided-decision.result c.decided-decision.ensures c.in-Err.is
 
-pub returns-in-Refused : goal.returns-in-Refused
-returns-in-Refused c =
+pub returns-in-Err : goal.returns-in-Err
+returns-in-Err c =
     decided_no _ (slices c.args.counts.now c.args.times.now c.args.round.now) c.decided-decision.result
     (record { counts = c.if-counts-lt16.false; times = c.if-times-lt16.false; round = c.if-round-lt1.false }) c.decided-decision.ensures
-    c.in-Refused.is c.code.ensures
+    c.in-Err.is c.code.ensures
 
 pub returns : goal.returns
 returns c =

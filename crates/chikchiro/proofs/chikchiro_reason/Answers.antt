@@ -10,7 +10,7 @@ returns-then-reason-lt3 c =
 
 pub code-requires : goal.code-requires
 code-requires c =
-    reason_small _ c.reasoned.result c.reasoned.ensures c.in-Refused.is
+    reason_small _ c.reasoned.result c.reasoned.ensures c.in-Err.is
 
 pub returns-in-None : goal.returns-in-None
 returns-in-None c =
@@ -31,6 +31,6 @@ returns-in-Buffer c =
     reasoned_as _ _ c.reasoned.result c.if-reason-lt3.false c.reasoned.ensures c.in-Buffer.is c.put_reason-in-Buffer.ensures.0
     c.put_reason-in-Buffer.ensures.1
 
-pub returns-in-Refused : goal.returns-in-Refused
-returns-in-Refused c =
-    reasoned_as _ _ c.reasoned.result c.if-reason-lt3.false c.reasoned.ensures c.in-Refused.is c.code.ensures refl
+pub returns-in-Err : goal.returns-in-Err
+returns-in-Err c =
+    reasoned_as _ _ c.reasoned.result c.if-reason-lt3.false c.reasoned.ensures c.in-Err.is c.code.ensures refl

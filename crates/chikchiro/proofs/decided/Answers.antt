@@ -2,9 +2,9 @@ use Rattle.chikchiro.proofs.Answers.{decision_read, decision_unread}
 use borrow.Author.Rules.{rules}
 use Rattle.chikchiro.proofs.decided.Goals as goal
 
-pub returns-in-Refused : goal.returns-in-Refused
-returns-in-Refused c =
-    decision_unread _ c.read-got.result c.read-got.ensures _ c.in-Refused.is
+pub returns-in-Err : goal.returns-in-Err
+returns-in-Err c =
+    decision_unread _ c.read-got.result c.read-got.ensures _ c.in-Err.is
 
 pub returns : goal.returns
 returns c =

@@ -1,9 +1,9 @@
 -- `need` answers the least count ahead of a rate, or the first refusal of 5 and 7. Assumes nothing.
+use Rattle.std.specs.Prelude.{Ok}
 use mathlib.Core.Path.{sym, ap, ◌∙◌}
 use native.Mathlib.Omega.{arith}
 use Rattle.show.proofs.Checks.{tells_yes, tells_no}
 use Rattle.count.specs.Answers.{BlockWithin, RateWithin}
-use Rattle.count.specs.declared.Asked.TheVariants.{Count}
 use Rattle.count.proofs.Spans.{span_asked, span_short}
 use Rattle.count.proofs.Answers.{need_unblocked, need_unrated, need_known}
 use Rattle.count.proofs.need.Goals as goal
@@ -34,5 +34,5 @@ pub returns : goal.returns
 returns c =
     let blocked : BlockWithin c.args.block = tells_yes _ c.block_within.result c.if-not-block_within.false c.block_within.ensures in
     let rated : RateWithin c.args.rate = tells_yes _ c.rate_within.result c.if-not-rate_within.false c.rate_within.ensures in
-    ap Count (c.ahead.ensures ∙ span_asked _ _ _ _ c.split-span.ensures)
+    ap Ok (c.ahead.ensures ∙ span_asked _ _ _ _ c.split-span.ensures)
     ∙ sym (need_known _ _ _ blocked rated)

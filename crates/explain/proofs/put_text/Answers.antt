@@ -2,19 +2,19 @@
 use Rattle.explain.proofs.Texts.{told_unread, told_reason, never_refused}
 use Rattle.explain.proofs.put_text.Goals as goal
 
-pub returns-in-Refused : goal.returns-in-Refused
-returns-in-Refused c =
-    record { text = _; holds = told_unread _ c.read-got.result c.read-got.ensures _ c.in-Refused.is; put = c.put_refusal.ensures }
+pub returns-in-Err : goal.returns-in-Err
+returns-in-Err c =
+    record { text = _; holds = told_unread _ c.read-got.result c.read-got.ensures _ c.in-Err.is; put = c.put_refusal.ensures }
 
-pub returns-in-Tenths : goal.returns-in-Tenths
-returns-in-Tenths c =
+pub returns-in-Ok : goal.returns-in-Ok
+returns-in-Ok c =
     record {
       text = _;
-      holds = told_reason _ c.read-got.result c.read-got.ensures c.in_default.is c.load-loaded.result c.load-loaded.ensures _ _ c.in-Tenths.is
+      holds = told_reason _ c.read-got.result c.read-got.ensures c.in_default.is c.load-loaded.result c.load-loaded.ensures _ _ c.in-Ok.is
           c.why-reason.ensures;
       put = c.put_reason.ensures;
     }
 
-pub returns-in-Refused-loaded : goal.returns-in-Refused-loaded
-returns-in-Refused-loaded c =
-    never_refused _ c.read-got.result c.read-got.ensures c.in_default.is c.load-loaded.result c.load-loaded.ensures _ c.in-Refused-loaded.is
+pub returns-in-Err-loaded : goal.returns-in-Err-loaded
+returns-in-Err-loaded c =
+    never_refused _ c.read-got.result c.read-got.ensures c.in_default.is c.load-loaded.result c.load-loaded.ensures _ c.in-Err-loaded.is

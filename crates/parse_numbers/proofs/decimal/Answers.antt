@@ -20,7 +20,7 @@ returns-in_default c =
 
 pub loop-i-preserved : goal.loop-i-preserved
 loop-i-preserved c =
-    body _ _ _ c.loop-i.invariant c.loop-i-test.true _ _ c.longer-found.ensures c.in-Is.is
+    body _ _ _ c.loop-i.invariant c.loop-i-test.true _ _ c.longer-found.ensures c.in-Some.is
 
 pub returns : goal.returns
 returns c =

@@ -14,13 +14,13 @@ returns-in_default c =
 
 pub decode-requires : goal.decode-requires
 decode-requires c =
-    let e = sym c.bytes-count.ensures ∙ c.in-Is.is in
+    let e = sym c.bytes-count.ensures ∙ c.in-Some.is in
     (omega arith, omega (arith, count_is _ _ e))
 
 pub returns-then-room-n : goal.returns-then-room-n
 returns-then-room-n c =
     let e = sym c.bytes-count.ensures
-    ∙ c.in-Is.is in
+    ∙ c.in-Some.is in
     record {
       counted = sym e;
       put = c.decode.ensures ∙ put_some _ _ _ e c.if-room-n.true;
@@ -28,13 +28,13 @@ returns-then-room-n c =
 
 pub decode-requires-2 : goal.decode-requires-2
 decode-requires-2 c =
-    let e = sym c.bytes-count.ensures ∙ c.in-Is.is in
+    let e = sym c.bytes-count.ensures ∙ c.in-Some.is in
     (omega arith, omega (arith, count_is _ _ e))
 
 pub returns : goal.returns
 returns c =
     let e = sym c.bytes-count.ensures
-    ∙ c.in-Is.is in
+    ∙ c.in-Some.is in
     record {
       counted = sym e;
       put = c.decode-2.ensures ∙ put_all _ _ _ e c.if-room-n.false;

@@ -12,8 +12,8 @@ use Rattle.playback.proofs.finish.Goals.{After-advance-states}
 use Rattle.playback.proofs.finish.Goals as goal
 
 -- The session read is one of the 16.
-few : (c : After-advance-states) → c.in-Read.session < 16
-few c = read_few _ (tested_sound _ _ c.test_run.ensures c.in-Sound.is) _ c.in-Read.is
+few : (c : After-advance-states) → c.in-Some.session < 16
+few c = read_few _ (tested_sound _ _ c.test_run.ensures c.in-Sound.is) _ c.in-Some.is
 
 pub returns-in_default : goal.returns-in_default
 returns-in_default c =
@@ -43,7 +43,7 @@ pub fill-requires : goal.fill-requires
 fill-requires c =
     let sized : length c.args.run.states ≡ 16 = search (unmapped, rules) in
     let sound = tested_sound _ _ c.test_run.ensures c.in-Sound.is in
-    let p = advanced_put _ _ _ _ sized sound c.in-Read.is c.advance-states.ensures in
+    let p = advanced_put _ _ _ _ sized sound c.in-Some.is c.advance-states.ensures in
     omega arith
 
 pub offset_bounds-states-session-2 : goal.offset_bounds-states-session-2
@@ -55,11 +55,11 @@ bounds-states-session-2 c = few (goal.at.bounds-states-session-2 c).After-advanc
 
 pub place_after-place-requires : goal.place_after-place-requires
 place_after-place-requires c =
-    (read_seated _ (tested_sound _ _ c.test_run.ensures c.in-Sound.is) _ c.in-Read.is).place
+    (read_seated _ (tested_sound _ _ c.test_run.ensures c.in-Sound.is) _ c.in-Some.is).place
 
 pub returns : goal.returns
 returns c =
     let sound = tested_sound _ _ c.test_run.ensures c.in-Sound.is in
     rw c.fill.ensures
-    (finish_counted _ _ sound c.if-d-gt-SPAN_MOST.false _ _ _ _ _ c.in-Read.is c.advance-states.ensures c.place_after-place.ensures
+    (finish_counted _ _ sound c.if-d-gt-SPAN_MOST.false _ _ _ _ _ c.in-Some.is c.advance-states.ensures c.place_after-place.ensures
     c.left_in.ensures c.count_off.ensures)

@@ -43,4 +43,4 @@ bounds-run-session-2 c = few (goal.at.bounds-run-session-2 c).Else-run-session
 pub returns : goal.returns
 returns c =
     let sound = tested_sound _ _ c.test_run.ensures c.in-Sound.is in
-    take_granted _ _ _ sound c.if-run-session.false _ c.take_from-drawn.ensures c.in-Within.is
+    take_granted _ _ _ sound c.if-run-session.false _ c.take_from-drawn.ensures c.in-Ok.is

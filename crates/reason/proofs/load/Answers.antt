@@ -1,18 +1,18 @@
 -- `load` tells the tenths of a per cent of a show within its limits. Assumes nothing.
+use Rattle.std.specs.Prelude.{Ok}
 use mathlib.Core.Path.{sym, ◌∙◌, ap}
 use native.Mathlib.Omega.{arith}
 use Prim.Native.Nat.{◌*◌}
 use native.Mathlib.Nat.{div-le_self}
 use Rattle.show.specs.Limits.{ShowWithin}
 use Rattle.show.proofs.Shows.{check_within}
-use Rattle.reason.specs.declared.Loaded.TheVariants.{Tenths}
 use Rattle.reason.proofs.Loads.{tenths_parts}
 use Rattle.reason.proofs.Answers.{load_refused, load_told}
 use Rattle.reason.proofs.load.Goals as goal
 
-pub returns-in-Refused : goal.returns-in-Refused
-returns-in-Refused c =
-    sym (load_refused _ _ (sym c.check-check.ensures ∙ c.in-Refused.is))
+pub returns-in-Err : goal.returns-in-Err
+returns-in-Err c =
+    sym (load_refused _ _ (sym c.check-check.ensures ∙ c.in-Err.is))
 
 pub weigh-work-requires : goal.weigh-work-requires
 weigh-work-requires c =
@@ -26,4 +26,4 @@ overflow_add-result c =
 
 pub returns : goal.returns
 returns c =
-    ap Tenths (tenths_parts _ _ c.weigh-work.ensures.0 c.weigh-work.ensures.1) ∙ sym (load_told _ (sym c.check-check.ensures ∙ c.in_default.is))
+    ap Ok (tenths_parts _ _ c.weigh-work.ensures.0 c.weigh-work.ensures.1) ∙ sym (load_told _ (sym c.check-check.ensures ∙ c.in_default.is))

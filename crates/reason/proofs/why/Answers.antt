@@ -12,9 +12,9 @@ use Rattle.reason.proofs.why.Goals.{In_default}
 within : (c : In_default) → ShowWithin c.args.show
 within c = check_within _ (sym c.check-check.ensures ∙ c.in_default.is)
 
-pub returns-in-Refused : goal.returns-in-Refused
-returns-in-Refused c =
-    outside _ (sym c.check-check.ensures ∙ c.in-Refused.is)
+pub returns-in-Err : goal.returns-in-Err
+returns-in-Err c =
+    outside _ (sym c.check-check.ensures ∙ c.in-Err.is)
 
 pub weigh-work-requires : goal.weigh-work-requires
 weigh-work-requires c =
@@ -40,5 +40,5 @@ lowest_short-requires c =
     let w = within (goal.at.lowest_short-requires c).In_default in
     record {
       show_within = w;
-      smallest = wide_counts _ _ (rw c.widest.ensures at c.decide-decision.ensures) c.in-Accepted.is;
+      smallest = wide_counts _ _ (rw c.widest.ensures at c.decide-decision.ensures) c.in-Ok.is;
     }

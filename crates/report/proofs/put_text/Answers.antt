@@ -3,21 +3,21 @@ use Rattle.report.proofs.Texts.{told_unread, told_yes, told_no}
 use Rattle.report.proofs.Sizes.{text_room}
 use Rattle.report.proofs.put_text.Goals as goal
 
-pub returns-in-Refused : goal.returns-in-Refused
-returns-in-Refused c =
+pub returns-in-Err : goal.returns-in-Err
+returns-in-Err c =
     record {
       text = _;
-      holds = told_unread _ c.read-got.result c.read-got.ensures _ c.in-Refused.is;
+      holds = told_unread _ c.read-got.result c.read-got.ensures _ c.in-Err.is;
       put = c.put_refusal.ensures;
     }
 
-pub returns-in-Refused-verdict : goal.returns-in-Refused-verdict
-returns-in-Refused-verdict c =
+pub returns-in-Err-verdict : goal.returns-in-Err-verdict
+returns-in-Err-verdict c =
     record {
       text = _;
       holds = told_no _ c.read-got.result c.read-got.ensures c.in_default.is c.decide-decision.result _ c.decide-decision.ensures
-          c.in-Refused-verdict.is;
-      put = c.put_refusal-in-Refused-verdict.ensures;
+          c.in-Err-verdict.is;
+      put = c.put_refusal-in-Err-verdict.ensures;
     }
 
 pub put_accepted-requires : goal.put_accepted-requires

@@ -2,9 +2,9 @@
 use Rattle.run.proofs.Opening.{open_refused, open_granted, open_few}
 use Rattle.run.proofs.open.Goals as goal
 
-pub returns-in-Refused : goal.returns-in-Refused
-returns-in-Refused c =
-    open_refused _ _ c.decide-decision.ensures _ _ c.in-Refused.is c.no_run.ensures
+pub returns-in-Err : goal.returns-in-Err
+returns-in-Err c =
+    open_refused _ _ c.decide-decision.ensures _ _ c.in-Err.is c.no_run.ensures
 
 pub first_run-requires : goal.first_run-requires
 first_run-requires c =

@@ -10,8 +10,8 @@ returns-in_default c =
 
 pub returns-then-read-seat : goal.returns-then-read-seat
 returns-then-read-seat c =
-    λ h. c.if-read-seat.true (h _ c.in-Read.is).same
+    λ h. c.if-read-seat.true (h _ c.in-Some.is).same
 
 pub returns : goal.returns
 returns c =
-    read_told _ _ _ _ _ _ c.in-Read.is c.if-read-seat.false c.takes_one.result c.takes_one.ensures
+    read_told _ _ _ _ _ _ c.in-Some.is c.if-read-seat.false c.takes_one.result c.takes_one.ensures

@@ -22,7 +22,7 @@ returns-in_default-underway c =
 
 pub returns-then-run-eq0 : goal.returns-then-run-eq0
 returns-then-run-eq0 c =
-    choose_empty _ (tested_sound _ _ c.test_run.ensures c.in-Sound.is) c.in-Nothing.is c.if-run-eq0.true
+    choose_empty _ (tested_sound _ _ c.test_run.ensures c.in-Sound.is) c.in-None.is c.if-run-eq0.true
 
 pub loop-k-init : goal.loop-k-init
 loop-k-init c = skips_none _
@@ -59,7 +59,7 @@ returns-then-room c =
     let found = tells_yes _ _ c.if-room.true c.room.ensures in
     let e = skips_found _ _ c.loop-k.invariant c.loop-k-test.true found in
     let past = arrives_past _ _ _ _ _ c.left_in.ensures c.left_after-left.ensures c.arrive.ensures e in
-    choose_next _ sound c.in-Nothing.is c.if-run-eq0.false _ (omega arith) past
+    choose_next _ sound c.in-None.is c.if-run-eq0.false _ (omega arith) past
 
 pub loop-k-preserved : goal.loop-k-preserved
 loop-k-preserved c =
@@ -69,4 +69,4 @@ pub returns : goal.returns
 returns c =
     let sound = tested_sound _ _ c.test_run.ensures c.in-Sound.is in
     let e = skips_all _ _ c.loop-k.invariant c.loop-k-test.false in
-    choose_idle _ sound c.in-Nothing.is c.if-run-eq0.false _ (omega arith) c.idle.ensures
+    choose_idle _ sound c.in-None.is c.if-run-eq0.false _ (omega arith) c.idle.ensures

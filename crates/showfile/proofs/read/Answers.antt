@@ -24,11 +24,11 @@ get_trailer-t-requires c =
     tells_yes _ c.length_within.result c.if-not-length_within.false c.length_within.ensures in
     let s = size in omega arith
 
-pub returns-in-Refused : goal.returns-in-Refused
-returns-in-Refused c =
+pub returns-in-Err : goal.returns-in-Err
+returns-in-Err c =
     let size : Between file_least (length c.args.file.now) file_most =
     tells_yes _ c.length_within.result c.if-not-length_within.false c.length_within.ensures in
-    c.refused-in-Refused.ensures ∙ read_trailer _ size _ c.get_trailer-t.ensures (sym c.check-check.ensures ∙ c.in-Refused.is)
+    c.refused-in-Err.ensures ∙ read_trailer _ size _ c.get_trailer-t.ensures (sym c.check-check.ensures ∙ c.in-Err.is)
 
 pub read_limits-requires : goal.read_limits-requires
 read_limits-requires c =

@@ -4,9 +4,9 @@ use Rattle.showfile.proofs.Sizes.{note_part}
 use Rattle.showfile_copy.proofs.Trip.{copy_refused, copy_answers}
 use Rattle.showfile_copy.proofs.copy.Goals as goal
 
-pub returns-in-Refused : goal.returns-in-Refused
-returns-in-Refused c =
-    let pair = copy_refused _ _ c.read-got.ensures refl c.in-Refused.is in record { value = pair.0; buffer_after = pair.1 }
+pub returns-in-Err : goal.returns-in-Err
+returns-in-Err c =
+    let pair = copy_refused _ _ c.read-got.ensures refl c.in-Err.is in record { value = pair.0; buffer_after = pair.1 }
 
 pub slice_bounds-write-end : goal.slice_bounds-write-end
 slice_bounds-write-end c =

@@ -7,10 +7,10 @@ use Rattle.showfile_copy.proofs.Trip.{reread_refused, reread_inside, reread_answ
 use borrow.Author.Rules.{rules}
 use Rattle.showfile_copy.proofs.reread.Goals as goal
 
-pub returns-in-Refused : goal.returns-in-Refused
-returns-in-Refused c =
+pub returns-in-Err : goal.returns-in-Err
+returns-in-Err c =
     record {
-      value = c.refused.ensures ∙ reread_refused _ _ _ c.write-wrote.ensures.value c.write-wrote.ensures.buffer_after c.in-Refused.is;
+      value = c.refused.ensures ∙ reread_refused _ _ _ c.write-wrote.ensures.value c.write-wrote.ensures.buffer_after c.in-Err.is;
       buffer_after = c.write-wrote.ensures.buffer_after;
     }
 

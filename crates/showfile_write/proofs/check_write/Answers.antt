@@ -31,10 +31,10 @@ pub returns-then-note-gt-NOTE_MOST : goal.returns-then-note-gt-NOTE_MOST
 returns-then-note-gt-NOTE_MOST c =
     write_note _ _ _ (counts (goal.at.returns-then-note-gt-NOTE_MOST c).Else-not-counts_within) (λ h. omega arith)
 
-pub returns-in-Refused : goal.returns-in-Refused
-returns-in-Refused c =
-    write_limits _ _ _ (counts (goal.at.returns-in-Refused c).Else-not-counts_within) (omega arith)
-    (sym c.check-check.ensures ∙ c.in-Refused.is)
+pub returns-in-Err : goal.returns-in-Err
+returns-in-Err c =
+    write_limits _ _ _ (counts (goal.at.returns-in-Err c).Else-not-counts_within) (omega arith)
+    (sym c.check-check.ensures ∙ c.in-Err.is)
 
 pub overflow_add-show : goal.overflow_add-show
 overflow_add-show c =

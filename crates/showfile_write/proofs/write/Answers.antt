@@ -3,9 +3,9 @@ use mathlib.Core.Path.{sym, ◌∙◌}
 use Rattle.showfile_write.proofs.Filed.{filed_refused, filed_within}
 use Rattle.showfile_write.proofs.write.Goals as goal
 
-pub returns-in-Refused : goal.returns-in-Refused
-returns-in-Refused c =
-    let pair = filed_refused _ _ _ c.unwritten.ensures (sym c.check_write-check.ensures ∙ c.in-Refused.is) in
+pub returns-in-Err : goal.returns-in-Err
+returns-in-Err c =
+    let pair = filed_refused _ _ _ c.unwritten.ensures (sym c.check_write-check.ensures ∙ c.in-Err.is) in
     record { value = pair.0; buffer_after = pair.1 }
 
 pub put_file-len-requires : goal.put_file-len-requires

@@ -12,5 +12,5 @@ returns-in_default c =
 
 pub returns : goal.returns
 returns c =
-    let sound : SoundRun c.args.run = stood_sound _ _ c.stand-stood.ensures c.in-Within.is in
+    let sound : SoundRun c.args.run = stood_sound _ _ c.stand-stood.ensures c.in-Ok.is in
     slack_stood _ sound _ (c.slack_in.ensures ∙ ap slack_for (stood_standing _ sound _ c.stand-stood.ensures))

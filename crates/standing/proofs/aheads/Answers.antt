@@ -21,7 +21,7 @@ returns-in_default c =
 
 pub loop-i-preserved : goal.loop-i-preserved
 loop-i-preserved c =
-    let e : to_z w64 (of_z w64 c.in-Time.ahead) ≡ c.in-Time.ahead = search rules in
+    let e : to_z w64 (of_z w64 c.in-Ok.ahead) ≡ c.in-Ok.ahead = search rules in
     let r = run_ahead _ c.requires _ c.loop-i-test.true in
     let m = filled_more 16 (pos 0) (ahead_at c.args.run) c.loop-i.i (omega arith) in
     (cc, omega arith)

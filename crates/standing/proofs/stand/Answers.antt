@@ -1,7 +1,7 @@
 -- `stand` tests the record and tells the standing. Assumes nothing.
+use Rattle.std.specs.Prelude.{Err}
 use mathlib.Core.Path.{ap, ◌∙◌}
 use Rattle.show.specs.declared.refusal.Refusal.TheVariants.{Damaged}
-use Rattle.show.specs.declared.refusal.Check.TheVariants.{Refused}
 use Rattle.run.specs.Sound.{SoundRun}
 use Rattle.run_test.proofs.Tests.{tested_sound, tested_damaged}
 use Rattle.standing.specs.declared.Standing.{Standing}
@@ -11,7 +11,7 @@ use Rattle.standing.proofs.stand.Goals as goal
 
 pub returns-in_default : goal.returns-in_default
 returns-in_default c =
-    let none : Standing → Stood = λ s. record { check = Refused Damaged; standing = s } in
+    let none : Standing → Stood = λ s. record { check = Err Damaged; standing = s } in
     ap none c.nobody.ensures
     ∙ stand_damaged _ (tested_damaged _ _ c.test_run.ensures c.in_default.is)
 

@@ -17,8 +17,8 @@ returns-in_default c =
 
 pub returns-then-count-least : goal.returns-then-count-least
 returns-then-count-least c =
-    let asked : c.in-Count.least ≡ need c.args.session.rate (c.args.block * 1000000) c.args.t =
-    need_is _ _ _ c.requires.0 c.requires.1 (sym c.need-asked.ensures ∙ c.in-Count.is) in
+    let asked : c.in-Ok.least ≡ need c.args.session.rate (c.args.block * 1000000) c.args.t =
+    need_is _ _ _ c.requires.0 c.requires.1 (sym c.need-asked.ensures ∙ c.in-Ok.is) in
     λ h.
     let l = h.ahead in
     let e = asked in
@@ -26,8 +26,8 @@ returns-then-count-least c =
 
 pub returns : goal.returns
 returns c =
-    let asked : c.in-Count.least ≡ need c.args.session.rate (c.args.block * 1000000) c.args.t =
-    need_is _ _ _ c.requires.0 c.requires.1 (sym c.need-asked.ensures ∙ c.in-Count.is) in
+    let asked : c.in-Ok.least ≡ need c.args.session.rate (c.args.block * 1000000) c.args.t =
+    need_is _ _ _ c.requires.0 c.requires.1 (sym c.need-asked.ensures ∙ c.in-Ok.is) in
     record {
       room = tells_yes _ c.fits.result c.if-not-fits.false c.fits.ensures;
       ahead = (let e = asked in omega arith);

@@ -24,7 +24,7 @@ use Rattle.verdict.proofs.Sets.{times_begun, times_body, times_ended, takes_told
 use Rattle.trial.specs.Answers.{TrialIs, untried}
 use Rattle.trial.proofs.Trials.{held_begun, held_body, held_ended, held_broken, trial_holds, trial_fails}
 use Rattle.trial.proofs.tried.Goals as goal
-use Rattle.trial.proofs.tried.Goals.{In_default, After-takes-worst, In-Takes}
+use Rattle.trial.proofs.tried.Goals.{In_default, After-takes-worst, In-Ok}
 
 -- The show is within its limits once 2, 5, 6 and 7 are past.
 within : (c : In_default) → ShowWithin c.args.show
@@ -45,19 +45,19 @@ asked c =
 
 -- the time that a turn adds, and its bound
 told :
-    (c : In-Takes) → ShowWithin c.args.show → c.takes-worst.result
+    (c : In-Ok) → ShowWithin c.args.show → c.takes-worst.result
     ≡ takes_of (read_cost (layout_at c.args.show (session_at c.args.show c.loop-i.i).layout)) c.args.show.drive.cylinder
     (set_of c.args.counts c.loop-i.i) →
     let s = c.args.show in
     let n = set_of c.args.counts c.loop-i.i in
-    (c.in-Takes.time ≡ worst_time s.drive.cylinder (read_cost (layout_at s (session_at s c.loop-i.i).layout)) n)
-    × (c.in-Takes.time ≤ time_most)
+    (c.in-Ok.time ≡ worst_time s.drive.cylinder (read_cost (layout_at s (session_at s c.loop-i.i).layout)) n)
+    × (c.in-Ok.time ≤ time_most)
 told c w e =
     let n : Fits w32 (set_of c.args.counts c.loop-i.i) = search rules in
-    takes_told _ _ _ _ (layout_within _ w _ c.loop-i-test.true) w.drive.cylinder (omega arith) (sym e ∙ c.in-Takes.is)
+    takes_told _ _ _ _ (layout_within _ w _ c.loop-i-test.true) w.drive.cylinder (omega arith) (sym e ∙ c.in-Ok.is)
 
-pub returns-in-Refused : goal.returns-in-Refused
-returns-in-Refused c = subst (TrialIs _ _) (sym c.timed.ensures) (untried _ (sym c.check-check.ensures ∙ c.in-Refused.is))
+pub returns-in-Err : goal.returns-in-Err
+returns-in-Err c = subst (TrialIs _ _) (sym c.timed.ensures) (untried _ (sym c.check-check.ensures ∙ c.in-Err.is))
 
 pub loop-i-init : goal.loop-i-init
 loop-i-init c = times_begun _ _ _ (filled_none 16 0 _)
@@ -97,7 +97,7 @@ pub overflow_add-round : goal.overflow_add-round
 overflow_add-round c =
     let at = goal.at.overflow_add-round c in
     let w = within at.In_default in
-    let b = (told at.In-Takes w (asked at.After-takes-worst)).1 in
+    let b = (told at.In-Ok w (asked at.After-takes-worst)).1 in
     let l = few _ _ w c.loop-i-test.true in
     omega arith
 
@@ -108,7 +108,7 @@ pub loop-i-preserved : goal.loop-i-preserved
 loop-i-preserved c =
     let at = goal.at.loop-i-preserved c in
     let w = within at.In_default in
-    let e = told at.In-Takes w (asked at.After-takes-worst) in
+    let e = told at.In-Ok w (asked at.After-takes-worst) in
     times_body _ _ _ _ _ _ w c.loop-i.invariant c.loop-i-test.true (e.0 ∙ time_same _ _ _) e.1
 
 pub loop-k-init : goal.loop-k-init

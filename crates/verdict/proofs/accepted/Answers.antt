@@ -1,5 +1,6 @@
 -- `accepted` answers what a settled time asks for, with the times. Invariant: the counts and the times of the first i sessions stand
 -- there. What falls: playing - i. Assumes nothing.
+use Rattle.std.specs.Prelude.{Ok}
 use Prim.Native.Nat.{◌<◌}
 use mathlib.Core.Path.{◌∙◌, ap}
 use native.Mathlib.Omega.{arith}
@@ -9,7 +10,6 @@ use Rattle.cost.proofs.Costs.{laid_below, layout_within}
 use Rattle.theory.specs.Shows.{load_of}
 use Rattle.theory.proofs.Shows.{feasible_few}
 use Rattle.count.proofs.Answers.{drive_block}
-use Rattle.verdict.specs.declared.Verdict.TheVariants as verdict
 use Rattle.verdict.proofs.Sets.{row_begun, row_body, row_ended, times_begun, times_body, times_ended, time_same}
 use Rattle.verdict.proofs.accepted.Goals as goal
 
@@ -95,4 +95,4 @@ pub returns : goal.returns
 returns c =
     let r = times_ended _ _ _ _ _ c.requires.show_within c.loop-i.invariant.1 c.loop-i-test.false in
     let m = row_ended _ _ _ _ c.loop-i.invariant.0 c.loop-i-test.false in
-    (λ j. record { verdict = verdict.Accepted; round = r.0 j; counts = m j; times = r.1 j })
+    (λ j. record { verdict = Ok tt; round = r.0 j; counts = m j; times = r.1 j })

@@ -13,9 +13,9 @@ use Rattle.verdict.proofs.decide.Goals.{In_default}
 within : (c : In_default) → ShowWithin c.args.show
 within c = check_within _ (sym c.check-check.ensures ∙ c.in_default.is)
 
-pub returns-in-Refused : goal.returns-in-Refused
-returns-in-Refused c =
-    subst (DecisionIs _) (sym c.refused.ensures) (outside _ (sym c.check-check.ensures ∙ c.in-Refused.is))
+pub returns-in-Err : goal.returns-in-Err
+returns-in-Err c =
+    subst (DecisionIs _) (sym c.refused.ensures) (outside _ (sym c.check-check.ensures ∙ c.in-Err.is))
 
 pub settle-settled-requires : goal.settle-settled-requires
 settle-settled-requires c =
@@ -30,7 +30,7 @@ returns-in_default-settled c =
 pub accepted-requires : goal.accepted-requires
 accepted-requires c =
     let w = within (goal.at.accepted-requires c).In_default in
-    let settled_at : Settled c.args.show c.in-Takes.t = subst (SettledAs _) c.in-Takes.is c.settle-settled.ensures in
+    let settled_at : Settled c.args.show c.in-Some.t = subst (SettledAs _) c.in-Some.is c.settle-settled.ensures in
     record {
       show_within = w;
       settled = settled_at;
@@ -39,7 +39,7 @@ accepted-requires c =
 pub returns : goal.returns
 returns c =
     let w = within (goal.at.returns c).In_default in
-    let settled_at : Settled c.args.show c.in-Takes.t = subst (SettledAs _) c.in-Takes.is c.settle-settled.ensures in
+    let settled_at : Settled c.args.show c.in-Some.t = subst (SettledAs _) c.in-Some.is c.settle-settled.ensures in
     let h = settled_at in
     subst (DecisionIs _) (sym c.accepted.ensures)
     (accepted _ w (least_smallest _ (show_sound _ w) _ h.least h.fits))

@@ -1,9 +1,9 @@
 -- `takes` answers U of a cost, or the first refusal of 5 and 6. Assumes nothing.
+use Rattle.std.specs.Prelude.{Ok}
 use mathlib.Core.Path.{sym, ap, ◌∙◌}
 use Rattle.show.specs.Limits.{Between}
 use Rattle.show.proofs.Checks.{tells_yes, tells_no}
 use Rattle.cost.specs.Bound.{Limited}
-use Rattle.cost.specs.declared.worst.Worst.TheVariants.{Takes}
 use Rattle.cost.proofs.WorstTimes.{takes_undriven, takes_unlimited, takes_known}
 use Rattle.cost.proofs.Cost.takes.Goals.{Else-not-cylinder_within, Else-not-limited}
 use Rattle.cost.proofs.Cost.takes.Goals as goal
@@ -30,4 +30,4 @@ time_of-requires c =
 pub returns : goal.returns
 returns c =
     let at = goal.at.returns c in
-    ap Takes c.time_of.ensures ∙ sym (takes_known _ _ _ (driven at.Else-not-cylinder_within) (limited at.Else-not-limited))
+    ap Ok c.time_of.ensures ∙ sym (takes_known _ _ _ (driven at.Else-not-cylinder_within) (limited at.Else-not-limited))

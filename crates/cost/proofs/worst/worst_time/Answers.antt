@@ -13,9 +13,9 @@ use Rattle.cost.proofs.worst.worst_time.Goals as goal
 within : (c : In_default) → ShowWithin c.args.show
 within c = check_within _ (sym c.check-check.ensures ∙ c.in_default.is)
 
-pub returns-in-Refused : goal.returns-in-Refused
-returns-in-Refused c =
-    sym (worst_refused _ _ _ (sym c.check-check.ensures ∙ c.in-Refused.is))
+pub returns-in-Err : goal.returns-in-Err
+returns-in-Err c =
+    sym (worst_refused _ _ _ (sym c.check-check.ensures ∙ c.in-Err.is))
 
 pub returns-then-show-i : goal.returns-then-show-i
 returns-then-show-i c =

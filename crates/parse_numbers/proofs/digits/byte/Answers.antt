@@ -10,8 +10,8 @@ returns-in_default c =
 
 pub overflow_cast-result : goal.overflow_cast-result
 overflow_cast-result c =
-    record { fits = byte_small _ _ _ (sym c.pair-found.ensures ∙ c.in-Is.is) }
+    record { fits = byte_small _ _ _ (sym c.pair-found.ensures ∙ c.in-Some.is) }
 
 pub returns : goal.returns
 returns c =
-    zero_is _ _ (sym c.pair-found.ensures ∙ c.in-Is.is)
+    zero_is _ _ (sym c.pair-found.ensures ∙ c.in-Some.is)

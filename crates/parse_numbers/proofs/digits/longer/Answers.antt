@@ -10,12 +10,12 @@ returns-in_default c =
 
 pub returns-then-n : goal.returns-then-n
 returns-then-n c =
-    longer_large _ _ _ (sym c.counted-found.ensures ∙ c.in-Is.is) (omega arith)
+    longer_large _ _ _ (sym c.counted-found.ensures ∙ c.in-Some.is) (omega arith)
 
 pub returns-then-tens-d : goal.returns-then-tens-d
 returns-then-tens-d c =
-    longer_large _ _ _ (sym c.counted-found.ensures ∙ c.in-Is.is) (omega arith)
+    longer_large _ _ _ (sym c.counted-found.ensures ∙ c.in-Some.is) (omega arith)
 
 pub returns : goal.returns
 returns c =
-    longer_fits _ _ _ (sym c.counted-found.ensures ∙ c.in-Is.is) (omega arith)
+    longer_fits _ _ _ (sym c.counted-found.ensures ∙ c.in-Some.is) (omega arith)

@@ -10,23 +10,23 @@ returns-in_default c =
 
 pub returns-in_default-lower : goal.returns-in_default-lower
 returns-in_default-lower c =
-    no_low _ _ _ (sym c.hex_digit-upper.ensures ∙ c.in-Is.is)
+    no_low _ _ _ (sym c.hex_digit-upper.ensures ∙ c.in-Some.is)
     (sym c.hex_digit-lower.ensures ∙ c.in_default-lower.is)
 
 pub overflow_mul-b : goal.overflow_mul-b
 overflow_mul-b c =
     let h = hex_small _ _
-    (sym c.hex_digit-upper.ensures ∙ c.in-Is.is) in
+    (sym c.hex_digit-upper.ensures ∙ c.in-Some.is) in
     record { fits = omega arith }
 
 pub overflow_add-b : goal.overflow_add-b
 overflow_add-b c =
     let h = hex_small _ _
-    (sym c.hex_digit-upper.ensures ∙ c.in-Is.is) in
-    let l = hex_small _ _ (sym c.hex_digit-lower.ensures ∙ c.in-Is-lower.is) in
+    (sym c.hex_digit-upper.ensures ∙ c.in-Some.is) in
+    let l = hex_small _ _ (sym c.hex_digit-lower.ensures ∙ c.in-Some-lower.is) in
     record { fits = omega arith }
 
 pub returns : goal.returns
 returns c =
-    both _ _ _ _ (sym c.hex_digit-upper.ensures ∙ c.in-Is.is)
-    (sym c.hex_digit-lower.ensures ∙ c.in-Is-lower.is)
+    both _ _ _ _ (sym c.hex_digit-upper.ensures ∙ c.in-Some.is)
+    (sym c.hex_digit-lower.ensures ∙ c.in-Some-lower.is)

@@ -9,4 +9,4 @@ returns-in_default c =
 
 pub returns : goal.returns
 returns c =
-    need_is _ _ _ c.requires.0 c.requires.1 (sym c.need-asked.ensures ∙ c.in-Count.is)
+    need_is _ _ _ c.requires.0 c.requires.1 (sym c.need-asked.ensures ∙ c.in-Ok.is)

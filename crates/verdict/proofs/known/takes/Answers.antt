@@ -19,4 +19,4 @@ pub returns : goal.returns
 returns c =
     let told : c.takes-worst.result ≡ takes_of (read_cost c.args.layout) c.args.cylinder c.args.n =
     c.takes-worst.ensures ∙ ap (λ (x : Cost). takes_of x c.args.cylinder c.args.n) c.of_read-cost.ensures in
-    takes_told _ _ _ _ c.requires.0 c.requires.1 (omega arith) (sym told ∙ c.in-Takes.is)
+    takes_told _ _ _ _ c.requires.0 c.requires.1 (omega arith) (sym told ∙ c.in-Ok.is)
