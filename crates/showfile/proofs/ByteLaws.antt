@@ -11,14 +11,14 @@ use Rattle.showfile.specs.Bytes.{word_of, half_of, over}
 -- ---- reading
 
 pub word_at :
-    (s : List ℕ) (at a b c d : ℕ) → a ≡ get_or s at 0 → b ≡ get_or s (at + 1) 0 → c ≡ get_or s (at + 2) 0 → d ≡ get_or s (at + 3) 0 →
-    a + 256 * b + 65536 * c + 16777216 * d ≡ word_of (drop at s)
+    (s : List ℕ) (at : ℕ) →
+    get_or s at 0 + 256 * get_or s (at + 1) 0 + 65536 * get_or s (at + 2) 0 + 16777216 * get_or s (at + 3) 0 ≡ word_of (drop at s)
 unfolding word_of
-word_at s at a b c d ha hb hc hd = simp (get_or-drop, add-zero) (omega arith)
+word_at s at = simp (get_or-drop, add-zero) (omega arith)
 
-pub half_at : (s : List ℕ) (at a b : ℕ) → a ≡ get_or s at 0 → b ≡ get_or s (at + 1) 0 → a + 256 * b ≡ half_of (drop at s)
+pub half_at : (s : List ℕ) (at : ℕ) → get_or s at 0 + 256 * get_or s (at + 1) 0 ≡ half_of (drop at s)
 unfolding half_of
-half_at s at a b ha hb = simp (get_or-drop, add-zero) (omega arith)
+half_at s at = simp (get_or-drop, add-zero) (omega arith)
 
 -- ---- bytes over others
 

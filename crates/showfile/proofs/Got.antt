@@ -1,14 +1,14 @@
--- What reads at one place after another make: a layout, a session, a trailer, a show. Assumes nothing.
+-- What reads at one place after another make: a trailer, a show; no bytes are a layout, and a session, of zeros. Assumes nothing.
 use Prim.Native.Nat.{ℕ, ◌+◌, ◌*◌}
 use mathlib.Core.Path.{◌≡◌}
-use mathlib.Core.List.{List}
+use mathlib.Core.List.{List, []}
 use lib.ListN.{drop}
 use lib.Seq.{drop-drop}
 use Rattle.show.specs.Outcomes.{Check}
 use Rattle.show.specs.declared.Layout.{Layout}
 use Rattle.show.specs.declared.Session.{Session}
 use Rattle.show.specs.declared.Show.{Show}
-use Rattle.show.specs.Limits.{CountsWithin, no_layout, no_session}
+use Rattle.show.specs.Limits.{CountsWithin}
 use Rattle.show.specs.Checks.{limits_check, show_check}
 use Rattle.show.proofs.Shows.{limits_left}
 use Rattle.showfile.specs.declared.Reading.{Reading}
@@ -19,20 +19,6 @@ use Rattle.showfile.specs.File.{layout_of, session_of, trailer_of, show_from}
 use Rattle.showfile.specs.Answers.{reading}
 
 module _ (s : List ℕ) (at : ℕ) where
-  pub layout_got :
-      {p q r t : ℕ} → p ≡ word_of (drop at s) → q ≡ word_of (drop (at + 4) s) → r ≡ word_of (drop (at + 8) s) →
-      t ≡ word_of (drop (at + 12) s) →
-      ◌≡◌ {A = Layout} (record { longest = p; track = q; time = r; rotation = t }) (layout_of (drop at s))
-  unfolding layout_of
-  layout_got ep eq er et = rw (ep, eq, er, et, drop-drop 4 at s, drop-drop 8 at s, drop-drop 12 at s)
-
-  pub session_got :
-      {p q r t : ℕ} → p ≡ word_of (drop at s) → q ≡ word_of (drop (at + 4) s) → r ≡ word_of (drop (at + 8) s) →
-      t ≡ word_of (drop (at + 12) s) →
-      ◌≡◌ {A = Session} (record { rate = p; cushion = q; buffer = r; layout = t }) (session_of (drop at s))
-  unfolding session_of
-  session_got ep eq er et = rw (ep, eq, er, et, drop-drop 4 at s, drop-drop 8 at s, drop-drop 12 at s)
-
   pub trailer_got :
       {a n l p f g : ℕ} → a ≡ word_of (drop at s) → n ≡ word_of (drop (at + 4) s) → l ≡ half_of (drop (at + 8) s) →
       p ≡ half_of (drop (at + 10) s) → f ≡ word_of (drop (at + 12) s) → g ≡ word_of (drop (at + 16) s) →
@@ -42,10 +28,10 @@ module _ (s : List ℕ) (at : ℕ) where
       rw (ea, en, el, ep, ef, eg, drop-drop 4 at s, drop-drop 8 at s, drop-drop 10 at s, drop-drop 12 at s, drop-drop 16 at s)
 
   pub show_got :
-      (t : Trailer) {ls : List Layout} {ss : List Session} → ls ≡ padded 8 no_layout (row_of layout_of t.laid (drop at s)) →
-      ss ≡ padded 16 no_session (row_of session_of t.playing (drop (at + t.laid * 16) s)) →
+      (t : Trailer) {ls : List Layout} {ss : List Session} → ls ≡ padded 8 (layout_of []) (row_of layout_of t.laid (drop at s)) →
+      ss ≡ padded 16 (session_of []) (row_of session_of t.playing (drop (at + t.laid * 16) s)) →
       ◌≡◌ {A = Show} (record { drive = t.drive; layouts = ls; laid = t.laid; sessions = ss; playing = t.playing }) (show_from t (drop at s))
-  unfolding show_from
+  unfolding show_from layout_of session_of word_of
   show_got t el es = rw (el, es, drop-drop (t.laid * 16) at s)
 
 -- A show whose counts are within theirs is answered by its other limits.

@@ -1,4 +1,5 @@
 pub mod Bytes
+pub mod Rows
 pub mod File
 pub mod Checks
 pub mod Answers

@@ -2,7 +2,7 @@
 #![tactic(auto)]
 
 mod bytes;
-mod rows;
+pub mod rows;
 pub mod trailer;
 
 ghost use Rattle.std.specs.Prelude.{◌≡◌, ◌+◌, ◌*◌, ◌≤◌, length, drop, Err, Ok};
@@ -12,7 +12,7 @@ ghost use Rattle.showfile.specs.File.{show_from};
 ghost use Rattle.showfile.specs.Checks.{file_least, file_most, note_most, note_length, trailer_check};
 ghost use Rattle.showfile.specs.Answers.{reading, read_of, note_of, shown_at};
 
-use crate::rows::{get_layouts, get_sessions};
+use crate::rows::get_rows;
 use crate::trailer::{Trailer, get_trailer};
 use show::Show;
 use show::refusal::Refusal;
@@ -42,22 +42,13 @@ impl Reading {
     fn length_within(n: usize) -> bool
         ensures { Tells result (Between file_least n file_most) }
     {
-        if n < Reading::FILE_LEAST {
-            return false;
-        }
-        if Reading::FILE_MOST < n {
-            return false;
-        }
-        true
+        Reading::FILE_LEAST <= n && n <= Reading::FILE_MOST
     }
 
     pub(crate) fn note_within(n: usize) -> bool
         ensures { Tells result (n ≤ note_most) }
     {
-        if Reading::NOTE_MOST < n {
-            return false;
-        }
-        true
+        n <= Reading::NOTE_MOST
     }
 }
 
@@ -76,13 +67,9 @@ pub fn refused(why: Refusal) -> Reading
 fn answer(check: Result<(), Refusal>, show: Show, note: usize) -> Reading
     ensures { result ≡ reading check show note }
 {
-    if let Err(why) = check {
-        return refused(why);
-    }
-    Reading {
-        check: Ok(()),
-        show,
-        note,
+    match check {
+        Ok(()) => Reading { check, show, note },
+        Err(why) => refused(why),
     }
 }
 
@@ -91,14 +78,11 @@ fn get_show(file: &[u8], from: usize, t: Trailer) -> Show
     requires { (t.laid ≤ 8) × (t.playing ≤ 16) × (from + 16 * (t.laid + t.playing) ≤ length file.now) }
     ensures { result ≡ show_from t (drop from file.now) }
 {
-    let drive = t.drive;
-    let layouts = get_layouts(file, from, t.laid);
-    let sessions = get_sessions(file, from + t.laid * 16, t.playing);
     Show {
-        drive,
-        layouts,
+        drive: t.drive,
+        layouts: get_rows(file, from, t.laid),
         laid: t.laid,
-        sessions,
+        sessions: get_rows(file, from + t.laid * 16, t.playing),
         playing: t.playing,
     }
 }
@@ -123,8 +107,7 @@ pub fn read(file: &[u8]) -> Reading
     }
     let at = n - Trailer::LENGTH;
     let t = get_trailer(file, at);
-    let check = t.check(at);
-    if let Err(why) = check {
+    if let Err(why) = t.check(at) {
         return refused(why);
     }
     read_limits(file, at, t)
@@ -134,7 +117,6 @@ pub fn read(file: &[u8]) -> Reading
 pub fn note(file: &[u8]) -> &[u8]
     ensures { result.now ≡ note_of file.now }
 {
-    let got = read(file);
-    let end = got.note;
+    let end = read(file).note;
     &file[..end]
 }

@@ -1,73 +1,91 @@
 // Rows of layouts and of sessions, sixteen bytes each.
-ghost use Rattle.std.specs.Prelude.{◌≡◌, ◌+◌, ◌*◌, ◌≤◌, length, drop};
-ghost use Rattle.show.specs.Limits.{no_layout, no_session};
+ghost use Rattle.std.specs.Prelude.{◌≡◌, ◌+◌, ◌*◌, ◌≤◌, ℕ, List, [], length, drop};
 ghost use Rattle.show.specs.Lists.{padded};
 ghost use Rattle.showfile.specs.Bytes.{row_of};
-ghost use Rattle.showfile.specs.File.{layout_of, session_of};
+ghost use Rattle.showfile.specs.Rows.{words_of, bytes_of};
+ghost use Rattle.showfile.specs.File.{layout_of, layout_bytes, session_of, session_bytes};
 
 use crate::bytes::get_word;
 use show::{Layout, Session};
 
-fn get_layout(s: &[u8], at: usize) -> Layout
+// A record that takes a row of sixteen bytes: four words.
+pub trait Row: Copy {
+    // The record that a list of bytes begins with, and the bytes of a record.
+    ghost of: { List ℕ → Self };
+
+    ghost bytes: { Self → List ℕ };
+
+    fn from_words(words: [u32; 4]) -> Self
+        ensures { (s : List ℕ) → words ≡ words_of s → result ≡ of s };
+
+    fn words(self) -> [u32; 4]
+        ensures { bytes self ≡ bytes_of result };
+}
+
+impl Row for Layout {
+    ghost of = { layout_of };
+
+    ghost bytes = { layout_bytes };
+
+    #[tactic(auto, unfolding(crate::specs::File::layout_of))]
+    fn from_words(words: [u32; 4]) -> Layout {
+        let [longest, track, time, rotation] = words;
+        Layout {
+            longest,
+            track,
+            time,
+            rotation,
+        }
+    }
+
+    #[tactic(auto, unfolding(crate::specs::File::layout_bytes))]
+    fn words(self) -> [u32; 4] {
+        [self.longest, self.track, self.time, self.rotation]
+    }
+}
+
+impl Row for Session {
+    ghost of = { session_of };
+
+    ghost bytes = { session_bytes };
+
+    #[tactic(auto, unfolding(crate::specs::File::session_of))]
+    fn from_words(words: [u32; 4]) -> Session {
+        let [rate, cushion, buffer, layout] = words;
+        Session {
+            rate,
+            cushion,
+            buffer,
+            layout,
+        }
+    }
+
+    #[tactic(auto, unfolding(crate::specs::File::session_bytes))]
+    fn words(self) -> [u32; 4] {
+        [self.rate, self.cushion, self.buffer, self.layout]
+    }
+}
+
+fn get_row<R: Row>(s: &[u8], at: usize) -> R
     requires { at + 16 ≤ length s.now }
-    ensures { result ≡ layout_of (drop at s.now) }
+    ensures { result ≡ R.of (drop at s.now) }
 {
-    Layout {
-        longest: get_word(s, at),
-        track: get_word(s, at + 4),
-        time: get_word(s, at + 8),
-        rotation: get_word(s, at + 12),
-    }
+    R::from_words([
+        get_word(s, at),
+        get_word(s, at + 4),
+        get_word(s, at + 8),
+        get_word(s, at + 12),
+    ])
 }
 
-fn get_session(s: &[u8], at: usize) -> Session
-    requires { at + 16 ≤ length s.now }
-    ensures { result ≡ session_of (drop at s.now) }
+// The `n` records from `from`, and zeros in the places above.
+pub(crate) fn get_rows<R: Row, const N: usize>(s: &[u8], from: usize, n: usize) -> [R; N]
+    requires { (n ≤ N) × (from + n * 16 ≤ length s.now) }
+    ensures { result ≡ padded N (R.of []) (row_of R.of n (drop from s.now)) }
 {
-    Session {
-        rate: get_word(s, at),
-        cushion: get_word(s, at + 4),
-        buffer: get_word(s, at + 8),
-        layout: get_word(s, at + 12),
-    }
-}
-
-// The `n` layouts from `from`, and zeros in the places above.
-pub(crate) fn get_layouts(s: &[u8], from: usize, n: usize) -> [Layout; 8]
-    requires { (n ≤ 8) × (from + n * 16 ≤ length s.now) }
-    ensures { result ≡ padded 8 no_layout (row_of layout_of n (drop from s.now)) }
-{
-    let none = Layout {
-        longest: 0,
-        track: 0,
-        time: 0,
-        rotation: 0,
-    };
-    let mut out = [none; 8];
-    let mut i = 0;
-    while i < n {
-        out[i] = get_layout(s, from + i * 16);
-        i += 1;
-    }
-    out
-}
-
-// The `n` sessions from `from`, and zeros in the places above.
-pub(crate) fn get_sessions(s: &[u8], from: usize, n: usize) -> [Session; 16]
-    requires { (n ≤ 16) × (from + n * 16 ≤ length s.now) }
-    ensures { result ≡ padded 16 no_session (row_of session_of n (drop from s.now)) }
-{
-    let none = Session {
-        rate: 0,
-        cushion: 0,
-        buffer: 0,
-        layout: 0,
-    };
-    let mut out = [none; 16];
-    let mut i = 0;
-    while i < n {
-        out[i] = get_session(s, from + i * 16);
-        i += 1;
+    let mut out = [R::from_words([0; 4]); N];
+    for i in 0..n {
+        out[i] = get_row(s, from + i * 16);
     }
     out
 }

@@ -26,16 +26,9 @@ impl Trailer {
         requires { CountsWithin self.laid self.playing }
         ensures { Tells result (Distanced at self) }
     {
-        if self.far as usize != 16 * (self.laid + self.playing) {
-            return false;
-        }
-        if self.near as usize != 16 * self.playing {
-            return false;
-        }
-        if at < self.far as usize {
-            return false;
-        }
-        true
+        self.far as usize == 16 * (self.laid + self.playing)
+            && self.near as usize == 16 * self.playing
+            && self.far as usize <= at
     }
 
     // 2, 3, 4, of a trailer that stands at `at`.
@@ -59,12 +52,11 @@ pub(crate) fn get_trailer(s: &[u8], at: usize) -> Trailer
     requires { at + 20 ≤ length s.now }
     ensures { result ≡ trailer_of (drop at s.now) }
 {
-    let drive = Drive {
-        block: get_word(s, at),
-        cylinder: get_word(s, at + 4),
-    };
     Trailer {
-        drive,
+        drive: Drive {
+            block: get_word(s, at),
+            cylinder: get_word(s, at + 4),
+        },
         laid: get_half(s, at + 8),
         playing: get_half(s, at + 10),
         far: get_word(s, at + 12),

@@ -4,4 +4,4 @@ use Rattle.showfile.proofs.get_show.Goals as goal
 
 pub returns : goal.returns
 returns c =
-    show_got c.args.file.now c.args.from c.args.t c.get_layouts-layouts.ensures c.get_sessions-sessions.ensures
+    show_got c.args.file.now c.args.from c.args.t c.get_rows.ensures c.get_rows-2.ensures

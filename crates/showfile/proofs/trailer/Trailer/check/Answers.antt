@@ -1,6 +1,5 @@
 -- `check` stops at the first of 2, 3 and 4. Assumes nothing.
 use mathlib.Core.Path.{sym}
-use native.Mathlib.Omega.{arith}
 use Rattle.show.specs.Limits.{CountsWithin}
 use Rattle.show.proofs.Checks.{tells_yes, tells_no}
 use Rattle.showfile.specs.Checks.{Distanced}
@@ -19,29 +18,10 @@ pub returns-then-not-counts_within : goal.returns-then-not-counts_within
 returns-then-not-counts_within c =
     trailer_counts _ _ (tells_no _ c.counts_within.result c.if-not-counts_within.true c.counts_within.ensures)
 
-pub distanced-requires : goal.distanced-requires
-distanced-requires c =
-    counts c
-
 pub returns-then-not-distanced : goal.returns-then-not-distanced
 returns-then-not-distanced c =
     trailer_distances _ _ (counts (goal.at.returns-then-not-distanced c).Else-not-counts_within)
     (tells_no _ c.distanced.result c.if-not-distanced.true c.distanced.ensures)
-
-pub overflow_add-self : goal.overflow_add-self
-overflow_add-self c =
-    let k = counts (goal.at.overflow_add-self c).Else-not-counts_within in omega arith
-
-pub overflow_mul-self : goal.overflow_mul-self
-overflow_mul-self c =
-    let k = counts (goal.at.overflow_mul-self c).Else-not-counts_within in omega arith
-
-pub overflow_sub-at : goal.overflow_sub-at
-overflow_sub-at c =
-    let at = goal.at.overflow_sub-at c in
-    let k = counts at.Else-not-counts_within in
-    let d = distances at.Else-not-distanced in
-    omega arith
 
 pub returns-then-not-note_within : goal.returns-then-not-note_within
 returns-then-not-note_within c =

@@ -1,7 +1,0 @@
--- `get_layout` reads four words. Assumes nothing.
-use Rattle.showfile.proofs.Got.{layout_got}
-use Rattle.showfile.proofs.rows.get_layout.Goals as goal
-
-pub returns : goal.returns
-returns c =
-    layout_got c.args.s.now c.args.at c.get_word.ensures c.get_word-2.ensures c.get_word-3.ensures c.get_word-4.ensures
