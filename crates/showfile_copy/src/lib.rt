@@ -15,12 +15,10 @@ pub fn reread(show: Show, note: &[u8], buffer: &mut [u8]) -> Reading
     ensures buffer_after { buffer.new ≡ buffer_of show note.now buffer.old }
 {
     let wrote = write(show, note, buffer);
-    let check = wrote.check;
-    if let Err(why) = check {
+    if let Err(why) = wrote.check {
         return refused(why);
     }
-    let n = wrote.len;
-    read(&buffer[..n])
+    read(&buffer[..wrote.len])
 }
 
 // Reads a file and writes what it read: the same bytes; or 1 to 7, then 16.
@@ -29,13 +27,11 @@ pub fn copy(file: &[u8], buffer: &mut [u8]) -> Written
     ensures buffer_after { buffer.new ≡ copy_of file.now buffer.old }
 {
     let got = read(file);
-    let check = got.check;
-    if let Err(why) = check {
+    if let Err(why) = got.check {
         return Written {
             check: Err(why),
             len: 0,
         };
     }
-    let n = got.note;
-    write(got.show, &file[..n], buffer)
+    write(got.show, &file[..got.note], buffer)
 }

@@ -1,35 +1,18 @@
 -- Laws of bytes that are written over others: numbers, and bytes that are copied. Assumes nothing.
 use mathlib.Core.Path.{◌≡◌, refl, ap, ◌∙◌}
-use mathlib.Core.List.{List, [], ◌∷◌, ◌++◌, append_assoc}
-use Prim.Native.Nat.{ℕ, ◌+◌, ◌≤◌, ◌<◌}
-use native.Mathlib.Numerals.{add-one, add-two, add-three}
+use mathlib.Core.List.{List, ◌++◌, append_assoc}
+use Prim.Native.Nat.{ℕ, ◌+◌, ◌-◌, ◌≤◌}
 use native.Mathlib.Omega.{arith}
-use lib.ListN.{length, take, get_or, set, length-append, length-take, length-drop}
-use lib.Seq.{take-suc, length-take-le}
+use lib.ListN.{length, length-append}
+use lib.Seq.{drop-drop}
+use borrow.Rule.Slice.PartMut.{put_mid}
 use Rattle.showfile.specs.Bytes.{word_bytes, four_bytes, over}
-use Rattle.showfile.proofs.ByteLaws.{sets_over, one_over, over_then}
+use Rattle.showfile.proofs.ByteLaws.{over_then}
 
-pub two_over : (b : List ℕ) (at p q : ℕ) → at + 2 ≤ length b → set (set b at p) (at + 1) q ≡ over b at (p ∷ q ∷ [])
-two_over b at p q h = rw add-one (sets_over (p ∷ q ∷ []) b at h)
-
-pub four_over :
-    (b : List ℕ) (at p q r s : ℕ) → at + 4 ≤ length b →
-    set (set (set (set b at p) (at + 1) q) (at + 2) r) (at + 3) s ≡ over b at (p ∷ q ∷ r ∷ s ∷ [])
-four_over b at p q r s h = rw (add-one, add-two, add-three) (sets_over (p ∷ q ∷ r ∷ s ∷ []) b at h)
-
-pub over_length : (b : List ℕ) (at : ℕ) (vs : List ℕ) → at + length vs ≤ length b → length (over b at vs) ≡ length b
+-- bytes that are copied into a part
+pub part_over : (b : List ℕ) (at : ℕ) (vs : List ℕ) → put_mid at (at + length vs - at) b vs ≡ over b at vs
 unfolding over
-over_length b at vs h = simp (length-append, length-take, length-drop) (omega arith)
-
--- a list that is copied from the front, a byte a turn
-pub copied_more :
-    (b₀ b s : List ℕ) (i : ℕ) → i < length s → length s ≤ length b₀ → b ≡ over b₀ 0 (take i s) →
-    set b i (get_or s i 0) ≡ over b₀ 0 (take (i + 1) s)
-copied_more b₀ b s i hi hb e =
-    let lt : length (take i s) ≡ i = length-take-le i s (omega arith) in
-    let lb : length b ≡ length b₀ = ap length e ∙ over_length b₀ 0 (take i s) (omega arith) in
-    rw (add-one, take-suc s i 0 hi)
-    (over_then b₀ 0 (take i s) i (get_or s i 0 ∷ []) e (one_over b i (get_or s i 0) (omega arith)) (omega arith) (omega arith))
+part_over b at vs = let e : at + length vs - at ≡ length vs = omega arith in rw (e, drop-drop (length vs) at b) refl
 
 -- ---- four numbers
 

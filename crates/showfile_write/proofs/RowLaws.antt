@@ -1,5 +1,5 @@
 -- Laws of rows that are written, by how one record is written, in sixteen bytes. Assumes nothing.
-use mathlib.Core.Path.{◌≡◌, refl, ap, ◌∙◌}
+use mathlib.Core.Path.{◌≡◌, refl, sym, ap, ◌∙◌}
 use mathlib.Core.List.{List, [], ◌∷◌, ◌++◌, append_assoc, append-nil}
 use Prim.Native.Nat.{ℕ, ◌+◌, ◌*◌, ◌≤◌, ◌<◌}
 use native.Mathlib.Numerals.{add-one}
@@ -7,7 +7,7 @@ use native.Mathlib.Omega.{arith}
 use lib.ListN.{length, take, get_or, length-append}
 use lib.Seq.{take-suc, length-take-le}
 use Rattle.showfile.specs.Bytes.{row_bytes, over}
-use Rattle.showfile.proofs.ByteLaws.{over_then}
+use Rattle.showfile.proofs.ByteLaws.{over_nothing, over_then}
 
 module _ {A : Type 0} (bytes : A → List ℕ) where
   bytes_append : (l m : List A) → row_bytes bytes (l ++ m) ≡ row_bytes bytes l ++ row_bytes bytes m
@@ -34,13 +34,19 @@ module _ {A : Type 0} (bytes : A → List ℕ) where
     pub taken_length : (n : ℕ) (l : List A) → n ≤ length l → length (row_bytes bytes (take n l)) ≡ n * 16
     taken_length n l h = bytes_length (take n l) ∙ ap (λ (k : ℕ). k * 16) (length-take-le n l h)
 
-    -- a row that is written from the front, a record a turn
-    pub written_more :
-        (b₀ : List ℕ) {b b' : List ℕ} (at i : ℕ) (l : List A) (d : A) → i < length l → at + i * 16 + 16 ≤ length b₀ →
-        b ≡ over b₀ at (row_bytes bytes (take i l)) → b' ≡ over b (at + i * 16) (bytes (get_or l i d)) →
-        b' ≡ over b₀ at (row_bytes bytes (take (i + 1) l))
-    written_more b₀ at i l d hi hb e e' =
-        let done : length (row_bytes bytes (take i l)) ≡ i * 16 = taken_length i l (omega arith) in
-        let next : length (bytes (get_or l i d)) ≡ 16 = sixteen (get_or l i d) in
-        rw (bytes_more l i d hi)
-        (over_then b₀ at (row_bytes bytes (take i l)) (at + i * 16) (bytes (get_or l i d)) e e' (omega arith) (omega arith))
+  -- a row that is written from the front, a record a turn: what is written of it, and how long that is
+  pub written_none : (b : List ℕ) (at : ℕ) (l : List A) → (b ≡ over b at (row_bytes bytes (take 0 l))) × (length (row_bytes bytes (take 0 l)) ≡ 0)
+  unfolding row_bytes
+  written_none b at l = (over_nothing b at, refl)
+
+  pub written_more :
+      (b₀ : List ℕ) {b b' : List ℕ} (at i : ℕ) (l : List A) (a : A) → i < length l → a ≡ get_or l i a → length (bytes a) ≡ 16 →
+      at + i * 16 + 16 ≤ length b₀ → b ≡ over b₀ at (row_bytes bytes (take i l)) → length (row_bytes bytes (take i l)) ≡ i * 16 →
+      b' ≡ over b (at + i * 16) (bytes a) →
+      (b' ≡ over b₀ at (row_bytes bytes (take (i + 1) l))) × (length (row_bytes bytes (take (i + 1) l)) ≡ (i + 1) * 16)
+  written_more b₀ at i l a hi ea sixteen hb e done e' =
+      let more : row_bytes bytes (take (i + 1) l) ≡ row_bytes bytes (take i l) ++ bytes a =
+      bytes_more l i a hi ∙ ap (λ (x : A). row_bytes bytes (take i l) ++ bytes x) (sym ea) in (
+        rw more (over_then b₀ at (row_bytes bytes (take i l)) (at + i * 16) (bytes a) e e' (omega arith) (omega arith)),
+        rw more (length-append (row_bytes bytes (take i l)) (bytes a) ∙ omega arith),
+      )

@@ -5,27 +5,18 @@ mod bytes;
 mod rows;
 mod trailer;
 
-ghost use Rattle.std.specs.Prelude.{◌≡◌, ◌++◌, length, drop, Err, Ok};
+ghost use Rattle.std.specs.Prelude.{◌≡◌, ◌+◌, ◌*◌, ◌≤◌, ◌++◌, length, drop};
+ghost use Rattle.show.specs.Limits.{CountsWithin};
 ghost use Rattle.showfile.specs.File.{file_of};
-ghost use Rattle.showfile.specs.Answers.{written};
 ghost use Rattle.showfile_write.specs.Answers.{write_check, written_of, buffer_of};
 
 use crate::bytes::put_bytes;
-use crate::rows::{put_layouts, put_sessions};
+use crate::rows::put_rows;
 use crate::trailer::{put_trailer, trailer_of};
 use show::Show;
 use show::refusal::Refusal;
 use showfile::trailer::Trailer;
 use showfile::{Reading, Written};
-
-fn unwritten(why: Refusal) -> Written
-    ensures { result ≡ written (Err why) 0 }
-{
-    Written {
-        check: Err(why),
-        len: 0,
-    }
-}
 
 // 2, 4, 5, 6, 7, 16, of a buffer of `room` bytes.
 fn check_write(show: Show, note: &[u8], room: usize) -> Result<(), Refusal>
@@ -37,30 +28,26 @@ fn check_write(show: Show, note: &[u8], room: usize) -> Result<(), Refusal>
     if Reading::NOTE_MOST < note.len() {
         return Err(Refusal::NoteLength);
     }
-    let check = show.check();
-    if let Err(why) = check {
-        return Err(why);
-    }
+    show.check()?;
     if room < note.len() + 16 * (show.laid + show.playing) + Trailer::LENGTH {
         return Err(Refusal::BufferShort);
     }
     Ok(())
 }
 
-// Writes a file that has been found good and to fit, and answers its length.
+// Writes a file whose counts have been found good and which fits, and answers its length.
 fn put_file(show: Show, note: &[u8], buffer: &mut [u8]) -> usize
-    requires { write_check show note.now (length buffer.old) ≡ Ok tt }
+    requires counts { CountsWithin show.laid show.playing }
+    requires fits { length note.now + 16 * (show.laid + show.playing) + 20 ≤ length buffer.old }
     ensures value { result ≡ length (file_of show note.now) }
     ensures buffer_after { buffer.new ≡ file_of show note.now ++ drop (length (file_of show note.now)) buffer.old }
 {
     let first = note.len();
     let second = first + show.laid * 16;
     let third = second + show.playing * 16;
-    let layouts = show.layouts;
-    let sessions = show.sessions;
-    put_bytes(buffer, note);
-    put_layouts(buffer, first, layouts, show.laid);
-    put_sessions(buffer, second, sessions, show.playing);
+    put_bytes(buffer, 0, note);
+    put_rows(buffer, first, &show.layouts[..show.laid]);
+    put_rows(buffer, second, &show.sessions[..show.playing]);
     put_trailer(buffer, third, trailer_of(show));
     third + Trailer::LENGTH
 }
@@ -70,13 +57,14 @@ pub fn write(show: Show, note: &[u8], buffer: &mut [u8]) -> Written
     ensures value { result ≡ written_of show note.now (length buffer.old) }
     ensures buffer_after { buffer.new ≡ buffer_of show note.now buffer.old }
 {
-    let check = check_write(show, note, buffer.len());
-    if let Err(why) = check {
-        return unwritten(why);
-    }
-    let len = put_file(show, note, buffer);
-    Written {
-        check: Ok(()),
-        len,
+    match check_write(show, note, buffer.len()) {
+        Ok(()) => Written {
+            check: Ok(()),
+            len: put_file(show, note, buffer),
+        },
+        Err(why) => Written {
+            check: Err(why),
+            len: 0,
+        },
     }
 }

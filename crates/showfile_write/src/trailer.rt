@@ -8,13 +8,13 @@ use crate::bytes::{put_half, put_word};
 use show::Show;
 use showfile::trailer::Trailer;
 
+#[tactic(auto, unfolding(showfile::specs::File::trailer_for))]
 pub(crate) fn trailer_of(show: Show) -> Trailer
     requires { CountsWithin show.laid show.playing }
     ensures { result ≡ trailer_for show }
 {
-    let drive = show.drive;
     Trailer {
-        drive,
+        drive: show.drive,
         laid: show.laid,
         playing: show.playing,
         far: (16 * (show.laid + show.playing)) as u32,
@@ -26,9 +26,8 @@ pub(crate) fn put_trailer(b: &mut [u8], at: usize, t: Trailer)
     requires { at + 20 ≤ length b.old }
     ensures { b.new ≡ over b.old at (trailer_bytes t) }
 {
-    let drive = t.drive;
-    put_word(b, at, drive.block);
-    put_word(b, at + 4, drive.cylinder);
+    put_word(b, at, t.drive.block);
+    put_word(b, at + 4, t.drive.cylinder);
     put_half(b, at + 8, t.laid);
     put_half(b, at + 10, t.playing);
     put_word(b, at + 12, t.far);

@@ -2,6 +2,7 @@
 use mathlib.Core.Path.{refl}
 use Rattle.showfile.proofs.Sizes.{note_part}
 use Rattle.showfile_copy.proofs.Trip.{copy_refused, copy_answers}
+use borrow.Author.Rules.{rules}
 use Rattle.showfile_copy.proofs.copy.Goals as goal
 
 pub returns-in-Err : goal.returns-in-Err
@@ -14,5 +15,5 @@ slice_bounds-write-end c =
 
 pub returns : goal.returns
 returns c =
-    let pair = copy_answers _ _ c.read-got.ensures (λ i. (c.shared_slice_known-1.given i).fits) c.in_default.is c.write.ensures.value
+    let pair = copy_answers _ _ c.read-got.ensures (λ i. search rules) c.in_default.is c.write.ensures.value
     c.write.ensures.buffer_after in record { value = pair.0; buffer_after = pair.1 }

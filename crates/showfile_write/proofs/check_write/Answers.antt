@@ -3,6 +3,7 @@ use Prim.Native.Nat.{◌+◌, ◌*◌}
 use mathlib.Core.Path.{◌≡◌, sym, ◌∙◌}
 use native.Mathlib.Omega.{arith}
 use lib.ListN.{length}
+use Rattle.std.proofs.lemmas.Result.{err_from_is_err_and}
 use Rattle.show.specs.Limits.{CountsWithin, ShowWithin}
 use Rattle.show.proofs.Checks.{tells_yes, tells_no}
 use Rattle.show.proofs.Lists.{unmapped}
@@ -11,16 +12,16 @@ use Rattle.showfile.specs.File.{file_of}
 use Rattle.showfile_write.proofs.Stops.{write_counts, write_note, write_limits, write_short, write_within}
 use Rattle.showfile_write.proofs.Sizes.{shown_length}
 use borrow.Author.Rules.{rules}
-use Rattle.showfile_write.proofs.check_write.Goals.{Else-not-counts_within, In_default}
+use Rattle.showfile_write.proofs.check_write.Goals.{Else-not-counts_within, In_ok-check}
 use Rattle.showfile_write.proofs.check_write.Goals as goal
 
 counts : (c : Else-not-counts_within) → CountsWithin c.args.show.laid c.args.show.playing
 counts c = tells_yes _ c.counts_within.result c.if-not-counts_within.false c.counts_within.ensures
 
-within : (c : In_default) → ShowWithin c.args.show
-within c = check_within _ (sym c.check-check.ensures ∙ c.in_default.is)
+within : (c : In_ok-check) → ShowWithin c.args.show
+within c = check_within _ (sym c.check.ensures ∙ c.in_ok-check.was)
 
-size : (c : In_default) → length (file_of c.args.show c.args.note.now) ≡ length c.args.note.now + 16 * (c.args.show.laid + c.args.show.playing) + 20
+size : (c : In_ok-check) → length (file_of c.args.show c.args.note.now) ≡ length c.args.note.now + 16 * (c.args.show.laid + c.args.show.playing) + 20
 size c = shown_length _ _ (search (unmapped, rules)) (search (unmapped, rules)) (within c).counts
 
 pub returns-then-not-counts_within : goal.returns-then-not-counts_within
@@ -31,35 +32,20 @@ pub returns-then-note-gt-NOTE_MOST : goal.returns-then-note-gt-NOTE_MOST
 returns-then-note-gt-NOTE_MOST c =
     write_note _ _ _ (counts (goal.at.returns-then-note-gt-NOTE_MOST c).Else-not-counts_within) (λ h. omega arith)
 
-pub returns-in-Err : goal.returns-in-Err
-returns-in-Err c =
-    write_limits _ _ _ (counts (goal.at.returns-in-Err c).Else-not-counts_within) (omega arith)
-    (sym c.check-check.ensures ∙ c.in-Err.is)
-
-pub overflow_add-show : goal.overflow_add-show
-overflow_add-show c =
-    let w = (within (goal.at.overflow_add-show c).In_default).counts in omega arith
-
-pub overflow_mul-show : goal.overflow_mul-show
-overflow_mul-show c =
-    let w = (within (goal.at.overflow_mul-show c).In_default).counts in omega arith
-
-pub overflow_add-note : goal.overflow_add-note
-overflow_add-note c =
-    let w = (within (goal.at.overflow_add-note c).In_default).counts in omega arith
-
-pub overflow_add-note-2 : goal.overflow_add-note-2
-overflow_add-note-2 c =
-    let w = (within (goal.at.overflow_add-note-2 c).In_default).counts in omega arith
+pub returns-in_err-check : goal.returns-in_err-check
+returns-in_err-check c =
+    let p = err_from_is_err_and c.from_residual.result c.from_residual.ensures.1 in
+    rw (p.1, p.2)
+    (write_limits _ _ _ (counts (goal.at.returns-in_err-check c).Else-not-counts_within) (omega arith) (sym c.check.ensures ∙ c.in_err-check.was))
 
 pub returns-then-room-note : goal.returns-then-room-note
 returns-then-room-note c =
-    let at = (goal.at.returns-then-room-note c).In_default in
+    let at = (goal.at.returns-then-room-note c).In_ok-check in
     let e = size at in
     write_short _ _ _ (within at) (omega arith) (omega arith)
 
 pub returns : goal.returns
 returns c =
-    let at = (goal.at.returns c).In_default in
+    let at = (goal.at.returns c).In_ok-check in
     let e = size at in
     write_within _ _ _ (within at) (omega arith) (omega arith)
