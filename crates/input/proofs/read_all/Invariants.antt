@@ -1,9 +1,11 @@
--- `at` is within the room, and the bytes that are left get fewer.
-use Rattle.std.proofs.Common.{length, ◌-◌, ◌≤◌}
+-- `at` is within the room, whose first bytes are those that came; the bytes that are left get fewer.
+use Rattle.std.proofs.Common.{length, take, ◌-◌, ◌≤◌}
+use Rattle.std.specs.Io.KnownBytes.{Consumes}
 use Rattle.input.proofs.read_all.Given as goal
 
 abbrev pub invariant-loop-at : goal.invariant-loop-at
-invariant-loop-at g l = l.at ≤ length l.room
+invariant-loop-at g l =
+    (l.at ≤ length l.room) × Consumes (g.R.Read.remaining l.initial.input) (g.R.Read.remaining l.input) (take l.at l.room)
 
 abbrev pub decreases-loop-at : goal.decreases-loop-at
 decreases-loop-at g l = length l.initial.room - l.at
