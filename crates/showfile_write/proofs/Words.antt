@@ -1,69 +1,51 @@
 -- Numbers and their bytes, there and back; and rows of records of sixteen bytes, there and back. Assumes nothing.
-use Prim.Native.Nat.{ℕ, zero, suc, ◌+◌, ◌*◌, ◌/◌, ◌%◌, ◌≤◌, ◌<◌}
-use mathlib.Core.Path.{◌≡◌, refl, sym, ap}
+use Prim.Native.Nat.{ℕ, zero, suc, ◌+◌, ◌*◌, ◌≤◌, ◌<◌}
+use mathlib.Core.Path.{◌≡◌, refl, ap, ◌∙◌}
 use mathlib.Core.List.{List, [], ◌∷◌, ◌++◌, append_assoc}
 use native.Mathlib.Omega.{arith}
-use native.Mathlib.Nat.{div-div-eq-div-mul, div-add-mod', mod-eq_of_lt}
-use lib.Arith.{digits_div, digits_mod}
-use lib.ListN.{length, take, drop, get_or, length-drop}
-use lib.Seq.{get_or-drop, drop_at, drop-drop}
+use native.Mathlib.Decide.{dec_lt}
+use Rattle.std.specs.Int.{w16, w32, from_le_bytes}
+use Rattle.std.proofs.lemmas.Nat.{from_le_bytes-to_le_bytes_4, le_bytes_2, le_bytes_4}
+use Rattle.std.proofs.lemmas.List.{get_or_past}
+use lib.ListN.{length, take, drop, get_or, length-take, length-drop, take-append-drop}
+use lib.Seq.{get_or-drop, get_or-take, length-take-le, drop_at, drop-drop}
 use Rattle.showfile.specs.Bytes.{Bytes, word_of, half_of, word_bytes, half_bytes, row_of, row_bytes}
 
 pub bytes_drop : (n : ℕ) (s : List ℕ) → Bytes s → Bytes (drop n s)
 bytes_drop n s h i = rw get_or-drop (h (n + i))
 
+bytes_take : (n : ℕ) (s : List ℕ) → Bytes s → Bytes (take n s)
+bytes_take n s h i =
+    elim (dec_lt i n) [
+      | yes l ↦ rw (get_or-take n s i 0 l) (h i)
+      | no l ↦ rw (get_or_past (take n s) i 0 (omega (arith, length-take n s))) (omega arith)
+    ]
+
 -- ---- numbers
-
--- The higher quotients are quotients of quotients, which `omega` does not find by itself.
-over_65536 : (v : ℕ) → v / 65536 ≡ v / 256 / 256
-over_65536 v = sym (div-div-eq-div-mul v 256 256)
-
-over_16777216 : (v : ℕ) → v / 16777216 ≡ v / 65536 / 256
-over_16777216 v = sym (div-div-eq-div-mul v 65536 256)
-
--- the lowest digit, and the rest
-digit : (a q v : ℕ) → a < 256 → v ≡ q * 256 + a → (v % 256 ≡ a) × (v / 256 ≡ q)
-digit a q v h e = (rw e (digits_mod q h), rw e (digits_div q h))
-
-four_digits :
-    (v p q s a b c d : ℕ) → p * 256 + a ≡ v → q * 256 + b ≡ p → s * 256 + c ≡ q → d ≡ s →
-    a + 256 * b + 65536 * c + 16777216 * d ≡ v
-four_digits v p q s a b c d e₀ e₁ e₂ e₃ = omega arith
 
 pub word_there : (v : ℕ) (r : List ℕ) → v < 4294967296 → word_of (word_bytes v ++ r) ≡ v
 unfolding word_of word_bytes
-word_there v r h =
-    let small : v / 16777216 < 256 = omega arith in
-    four_digits v (v / 256) (v / 65536) (v / 16777216) (v % 256) (v / 256 % 256) (v / 65536 % 256) (v / 16777216 % 256)
-    (div-add-mod' v 256) (rw over_65536 (div-add-mod' (v / 256) 256)) (rw over_16777216 (div-add-mod' (v / 65536) 256))
-    (mod-eq_of_lt small)
+word_there v r h = omega (arith, from_le_bytes-to_le_bytes_4 v h)
 
 pub half_there : (v : ℕ) (r : List ℕ) → v < 65536 → half_of (half_bytes v ++ r) ≡ v
 unfolding half_of half_bytes
 half_there v r h = omega arith
 
+-- a number is read off its own bytes, which are those of its spelling
 pub word_back : (s : List ℕ) → 4 ≤ length s → Bytes s → word_bytes (word_of s) ++ drop 4 s ≡ s
 unfolding word_of word_bytes
-word_back [] h b = absurd (omega arith)
-word_back (x ∷ []) h b = absurd (omega arith)
-word_back (x ∷ y ∷ []) h b = absurd (omega arith)
-word_back (x ∷ y ∷ z ∷ []) h b = absurd (omega arith)
-word_back (x ∷ y ∷ z ∷ w ∷ r) h b =
-    let v = x + 256 * y + 65536 * z + 16777216 * w in
-    let d₀ = digit x (y + 256 * z + 65536 * w) v (b 0) (omega arith) in
-    let d₁ = digit y (z + 256 * w) (y + 256 * z + 65536 * w) (b 1) (omega arith) in
-    let d₂ = digit z w (z + 256 * w) (b 2) (omega arith) in
-    let d₃ = digit w 0 w (b 3) (omega arith) in
-    rw (over_16777216 v, over_65536 v, d₀.0, d₀.1, d₁.0, d₁.1, d₂.0, d₂.1, d₃.0)
+word_back s h b =
+    let at : (i : ℕ) → i < 4 → get_or (take 4 s) i 0 ≡ get_or s i 0 = λ i. get_or-take 4 s i 0 in
+    let is : word_of s ≡ from_le_bytes w32 (take 4 s) =
+    omega (arith, at 0 (omega arith), at 1 (omega arith), at 2 (omega arith), at 3 (omega arith)) in
+    ap (λ (t : List ℕ). t ++ drop 4 s) (le_bytes_4 (take 4 s) (word_of s) (length-take-le 4 s h) (bytes_take 4 s b) is) ∙ take-append-drop 4 s
 
 pub half_back : (s : List ℕ) → 2 ≤ length s → Bytes s → half_bytes (half_of s) ++ drop 2 s ≡ s
 unfolding half_of half_bytes
-half_back [] h b = absurd (omega arith)
-half_back (x ∷ []) h b = absurd (omega arith)
-half_back (x ∷ y ∷ r) h b =
-    let d₀ = digit x y (x + 256 * y) (b 0) (omega arith) in
-    let d₁ = digit y 0 y (b 1) (omega arith) in
-    rw (d₀.0, d₀.1, d₁.0)
+half_back s h b =
+    let at : (i : ℕ) → i < 2 → get_or (take 2 s) i 0 ≡ get_or s i 0 = λ i. get_or-take 2 s i 0 in
+    let is : half_of s ≡ from_le_bytes w16 (take 2 s) = omega (arith, at 0 (omega arith), at 1 (omega arith)) in
+    ap (λ (t : List ℕ). t ++ drop 2 s) (le_bytes_2 (take 2 s) (half_of s) (length-take-le 2 s h) (bytes_take 2 s b) is) ∙ take-append-drop 2 s
 
 -- ---- rows, by what one record is read as and how it is written
 
