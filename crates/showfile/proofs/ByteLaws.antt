@@ -1,26 +1,12 @@
--- Laws of numbers as bytes, and of bytes written over others. Assumes nothing.
+-- Laws of bytes written over others. Assumes nothing.
 use mathlib.Core.Path.{◌≡◌, sym, ap, ◌∙◌}
 use mathlib.Core.List.{List, [], ◌∷◌, ◌++◌, append_assoc}
-use Prim.Native.Nat.{ℕ, ◌+◌, ◌*◌, ◌≤◌}
+use Prim.Native.Nat.{ℕ, ◌+◌, ◌≤◌}
 use native.Mathlib.Nat.{add-zero, add_assoc, zero-add}
 use native.Mathlib.Omega.{arith}
-use lib.ListN.{length, take, drop, get_or, set, length-append, length-take, take-append-drop}
-use lib.Seq.{drop-drop, get_or-drop, sets-eq, sets, take_at, drop_at}
-use Rattle.showfile.specs.Bytes.{word_of, half_of, over}
-
--- ---- reading
-
-pub word_at :
-    (s : List ℕ) (at : ℕ) →
-    get_or s at 0 + 256 * get_or s (at + 1) 0 + 65536 * get_or s (at + 2) 0 + 16777216 * get_or s (at + 3) 0 ≡ word_of (drop at s)
-unfolding word_of
-word_at s at = simp (get_or-drop, add-zero) (omega arith)
-
-pub half_at : (s : List ℕ) (at : ℕ) → get_or s at 0 + 256 * get_or s (at + 1) 0 ≡ half_of (drop at s)
-unfolding half_of
-half_at s at = simp (get_or-drop, add-zero) (omega arith)
-
--- ---- bytes over others
+use lib.ListN.{length, take, drop, set, length-append, length-take, take-append-drop}
+use lib.Seq.{drop-drop, sets-eq, sets, take_at, drop_at}
+use Rattle.showfile.specs.Bytes.{over}
 
 -- stores one after the other
 pub sets_over : (vs b : List ℕ) (at : ℕ) → at + length vs ≤ length b → sets b at vs ≡ over b at vs

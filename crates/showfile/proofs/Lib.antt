@@ -2,6 +2,5 @@ pub mod ByteLaws
 pub mod RowLaws
 pub mod Passed
 pub mod Stops
-pub mod Got
 pub mod Sizes
 pub mod Readable

@@ -5,11 +5,11 @@ mod bytes;
 pub mod rows;
 pub mod trailer;
 
-ghost use Rattle.std.specs.Prelude.{◌≡◌, ◌+◌, ◌*◌, ◌≤◌, length, drop, Err, Ok};
+ghost use Rattle.std.specs.Prelude.{◌≡◌, ◌+◌, ◌*◌, ◌≤◌, length, Err};
 ghost use Rattle.show.specs.Checks.{limits_check};
-ghost use Rattle.show.specs.Limits.{Between, Tells, no_show};
+ghost use Rattle.show.specs.Limits.{Between, CountsWithin, Tells, no_show};
 ghost use Rattle.showfile.specs.File.{show_from};
-ghost use Rattle.showfile.specs.Checks.{file_least, file_most, note_most, note_length, trailer_check};
+ghost use Rattle.showfile.specs.Checks.{file_least, file_most, note_most, note_length, Distanced};
 ghost use Rattle.showfile.specs.Answers.{reading, read_of, note_of, shown_at};
 
 use crate::rows::get_rows;
@@ -73,27 +73,28 @@ fn answer(check: Result<(), Refusal>, show: Show, note: usize) -> Reading
     }
 }
 
-// The show whose first layout stands at `from`.
-fn get_show(file: &[u8], from: usize, t: Trailer) -> Show
-    requires { (t.laid ≤ 8) × (t.playing ≤ 16) × (from + 16 * (t.laid + t.playing) ≤ length file.now) }
-    ensures { result ≡ show_from t (drop from file.now) }
+// The show whose first layout a part of a file begins with.
+fn get_show(s: &[u8], t: Trailer) -> Show
+    requires { (t.laid ≤ 8) × (t.playing ≤ 16) × (16 * (t.laid + t.playing) ≤ length s.now) }
+    ensures { result ≡ show_from t s.now }
 {
     Show {
         drive: t.drive,
-        layouts: get_rows(file, from, t.laid),
+        layouts: get_rows(s, t.laid),
         laid: t.laid,
-        sessions: get_rows(file, from + t.laid * 16, t.playing),
+        sessions: get_rows(&s[t.laid * 16..], t.playing),
         playing: t.playing,
     }
 }
 
 // What is left to test where the trailer is good: 5, 6, 7.
 fn read_limits(file: &[u8], at: usize, t: Trailer) -> Reading
-    requires { (at ≤ length file.now) × (trailer_check at t ≡ Ok tt) }
+    requires counts { CountsWithin t.laid t.playing }
+    requires distances { (Distanced at t) × (at ≤ length file.now) }
     ensures { result ≡ reading (limits_check (shown_at file.now at t)) (shown_at file.now at t) (note_length at t) }
 {
     let note = at - 16 * (t.laid + t.playing);
-    let show = get_show(file, note, t);
+    let show = get_show(&file[note..], t);
     answer(show.check(), show, note)
 }
 
@@ -106,7 +107,7 @@ pub fn read(file: &[u8]) -> Reading
         return refused(Refusal::FileLength);
     }
     let at = n - Trailer::LENGTH;
-    let t = get_trailer(file, at);
+    let t = get_trailer(&file[at..]);
     if let Err(why) = t.check(at) {
         return refused(why);
     }

@@ -1,5 +1,5 @@
 // Rows of layouts and of sessions, sixteen bytes each.
-ghost use Rattle.std.specs.Prelude.{◌≡◌, ◌+◌, ◌*◌, ◌≤◌, ℕ, List, [], length, drop};
+ghost use Rattle.std.specs.Prelude.{◌≡◌, ◌*◌, ◌≤◌, ℕ, List, [], length};
 ghost use Rattle.show.specs.Lists.{padded};
 ghost use Rattle.showfile.specs.Bytes.{row_of};
 ghost use Rattle.showfile.specs.Rows.{words_of, bytes_of};
@@ -66,26 +66,27 @@ impl Row for Session {
     }
 }
 
-fn get_row<R: Row>(s: &[u8], at: usize) -> R
-    requires { at + 16 ≤ length s.now }
-    ensures { result ≡ R.of (drop at s.now) }
+// The record that a part of a file begins with.
+fn get_row<R: Row>(s: &[u8]) -> R
+    requires { 16 ≤ length s.now }
+    ensures { result ≡ R.of s.now }
 {
     R::from_words([
-        get_word(s, at),
-        get_word(s, at + 4),
-        get_word(s, at + 8),
-        get_word(s, at + 12),
+        get_word(s),
+        get_word(&s[4..]),
+        get_word(&s[8..]),
+        get_word(&s[12..]),
     ])
 }
 
-// The `n` records from `from`, and zeros in the places above.
-pub(crate) fn get_rows<R: Row, const N: usize>(s: &[u8], from: usize, n: usize) -> [R; N]
-    requires { (n ≤ N) × (from + n * 16 ≤ length s.now) }
-    ensures { result ≡ padded N (R.of []) (row_of R.of n (drop from s.now)) }
+// The `n` records that a part of a file begins with, and zeros in the places above.
+pub(crate) fn get_rows<R: Row, const N: usize>(s: &[u8], n: usize) -> [R; N]
+    requires { (n ≤ N) × (n * 16 ≤ length s.now) }
+    ensures { result ≡ padded N (R.of []) (row_of R.of n s.now) }
 {
     let mut out = [R::from_words([0; 4]); N];
     for i in 0..n {
-        out[i] = get_row(s, from + i * 16);
+        out[i] = get_row(&s[i * 16..]);
     }
     out
 }

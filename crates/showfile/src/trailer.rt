@@ -1,5 +1,5 @@
 // The last twenty bytes of a file, and their tests.
-ghost use Rattle.std.specs.Prelude.{◌≡◌, ◌+◌, ◌≤◌, length, drop};
+ghost use Rattle.std.specs.Prelude.{◌≡◌, ◌≤◌, length};
 ghost use Rattle.show.specs.Limits.{CountsWithin, Tells};
 ghost use Rattle.showfile.specs.File.{trailer_of};
 ghost use Rattle.showfile.specs.Checks.{Distanced, trailer_check};
@@ -48,18 +48,19 @@ impl Trailer {
     }
 }
 
-pub(crate) fn get_trailer(s: &[u8], at: usize) -> Trailer
-    requires { at + 20 ≤ length s.now }
-    ensures { result ≡ trailer_of (drop at s.now) }
+#[tactic(auto, unfolding(crate::specs::File::trailer_of))]
+pub(crate) fn get_trailer(s: &[u8]) -> Trailer
+    requires { 20 ≤ length s.now }
+    ensures { result ≡ trailer_of s.now }
 {
     Trailer {
         drive: Drive {
-            block: get_word(s, at),
-            cylinder: get_word(s, at + 4),
+            block: get_word(s),
+            cylinder: get_word(&s[4..]),
         },
-        laid: get_half(s, at + 8),
-        playing: get_half(s, at + 10),
-        far: get_word(s, at + 12),
-        near: get_word(s, at + 16),
+        laid: get_half(&s[8..]),
+        playing: get_half(&s[10..]),
+        far: get_word(&s[12..]),
+        near: get_word(&s[16..]),
     }
 }
