@@ -127,7 +127,13 @@ fn turns(order: [u32; 16], counts: [u32; 16], playing: usize, place: usize, left
 }
 
 // Whether a read that is under way is one of the session at the place, and may be.
-fn may_read(underway: Option<usize>, seat: usize, state: State, session: Session, block: u32) -> bool
+fn may_read(
+    underway: Option<usize>,
+    seat: usize,
+    state: State,
+    session: Session,
+    block: u32,
+) -> bool
     ensures { Tells result (UnderwayAt underway seat state session block) }
 {
     let Some(read) = underway else {
