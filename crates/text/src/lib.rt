@@ -1,5 +1,6 @@
 // Text put into a lent buffer at a place. Each call answers the place after what it put; where the text does not fit, no byte
 // changes, and it answers the place that was given.
+// `out` and `at` always go together, but no record has both: the contracts of put_word, put_numbered and put_paired name each of them.
 #![tactic(auto)]
 
 ghost use Rattle.std.specs.Prelude.{◌≡◌, ◌∷◌, ◌++◌, [], ◌+◌, ◌≤◌, ◌<◌, length};
@@ -69,7 +70,7 @@ fn fits(len: usize, at: usize, first: usize, second: usize, third: usize) -> boo
         && third <= len - at - first - second
 }
 
-// How many digits a number has: 0 has one.
+// How many digits a number has; 0 has one, as 1 does.
 pub fn width(n: u64) -> usize
     ensures { result ≡ length (decimal n) }
 {
@@ -92,13 +93,11 @@ fn put_decimal(out: &mut [u8], at: usize, digits: usize, n: u64) -> usize
     ensures { Put out.old at (decimal n) out.new result }
 {
     let end = at + digits;
-    let mut last = end - 1;
     let mut left = n;
-    while left >= 10 {
-        out[last] = b'0' + (left % 10) as u8;
-        left = left / 10;
-        last -= 1;
+    for i in (at + 1..end).rev() {
+        out[i] = b'0' + (left % 10) as u8;
+        left /= 10;
     }
-    out[last] = b'0' + left as u8;
+    out[at] = b'0' + left as u8;
     end
 }
