@@ -1,5 +1,4 @@
-pub mod Turns
-pub mod PartLaws
+pub mod Chains
 pub mod Places
 pub mod WorkedParts
 pub mod WorkedPlaces

@@ -1,4 +1,4 @@
--- Two digits a byte: laws for `pair`, `byte` and the loop of `bytes`. Assumes nothing.
+-- Two digits a byte: laws for `pair` and the loop of `bytes`. Assumes nothing.
 use Rattle.std.specs.Prelude.{Some, Option, None}
 use Prim.Native.Nat.{ℕ, suc, ◌+◌, ◌*◌, ◌/◌, ◌≤◌, ◌<◌}
 use mathlib.Core.Path.{◌≡◌, refl, sym, ap, ◌∙◌}
@@ -7,10 +7,8 @@ use mathlib.Core.List.{List, [], ◌∷◌}
 use native.Mathlib.Omega.{arith}
 use lib.Dec.{lit<}
 use lib.ListN.{length, drop, get_or, drop_of_length-le}
-use Rattle.parse_numbers.specs.Numbers.{longer_by}
-use Rattle.parse_numbers.specs.Bytes.{Bytes, hex_of, byte_of, joined, pairs_of, bytes_of, count_of, or_zero}
-use Rattle.parse.proofs.Turns.{stands}
-use Rattle.parse_numbers.proofs.Values.{is_not, counted_small}
+use Rattle.parse_numbers.specs.Bytes.{Bytes, hex_of, byte_of, joined, pairs_of, bytes_of, count_of}
+use Rattle.parse_numbers.proofs.Values.{stands, is_not, counted_small}
 
 pub are_none : {p : Type 0} {l : List ℕ} → Some l ≡ None → p
 are_none e = absurd (let z : ◌≡◌ {A = ℕ} 0 1 = cc in let f : ⊥ = omega arith in f)
@@ -23,36 +21,6 @@ hex_small b d =
     (λ x. counted_small 16 97 102 10 b _ x (lit< tt)
     (λ y. counted_small 16 65 70 10 b None y (lit< tt)
     (λ z e. is_not (sym e))))
-
-module _ (x y : (Option ℕ)) where
-  pub no_high : x ≡ None → None ≡ longer_by 16 x y
-  unfolding longer_by
-  no_high e = rw e
-
-  pub no_low : (h : ℕ) → x ≡ Some h → y ≡ None → None ≡ longer_by 16 x y
-  unfolding longer_by
-  no_low h e f = rw (e, f)
-
-  pub both : (h l : ℕ) → x ≡ Some h → y ≡ Some l → Some (16 * h + l) ≡ longer_by 16 x y
-  unfolding longer_by
-  both h l e f = rw (e, f)
-
-pub byte_small : (high low b : ℕ) → byte_of high low ≡ Some b → b < 256
-unfolding longer_by
-byte_small high low b = from _ _ (hex_small _) (hex_small _)
-  where
-    from : (x y : (Option ℕ)) → ((d : ℕ) → x ≡ Some d → d < 16) → ((d : ℕ) → y ≡ Some d → d < 16) → longer_by 16 x y ≡ Some b → b < 256
-    from (Some h) (Some l) p q g = let k : 16 * h + l ≡ b = cc in omega (arith, p h refl, q l refl)
-    from (Some h) None p q g = is_not (sym g)
-    from None y p q g = is_not (sym g)
-
-pub zero_none : (x : (Option ℕ)) → x ≡ None → 0 ≡ or_zero x
-unfolding or_zero
-zero_none x e = rw e
-
-pub zero_is : (x : (Option ℕ)) (b : ℕ) → x ≡ Some b → b ≡ or_zero x
-unfolding or_zero
-zero_is x b e = rw e
 
 -- ---- a text
 

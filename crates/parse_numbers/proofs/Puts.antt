@@ -1,16 +1,22 @@
--- Bytes over the first of a buffer: laws for the loop of `decode` and for `unhex`. Assumes nothing.
+-- Bytes over the first of a buffer: laws for `unhex` and its loop. Assumes nothing.
 use Rattle.std.specs.Prelude.{Some, Option, None}
-use Prim.Native.Nat.{ℕ, zero, suc, ◌+◌, ◌*◌, ◌≤◌, ◌<◌}
+use Rattle.std.specs.Option.{unwrap_or}
+use Prim.Native.Nat.{ℕ, zero, suc, ◌+◌, ◌*◌, ◌≤◌, ◌<◌, min}
 use mathlib.Core.Path.{◌≡◌, refl, sym, ap, ap₂, ◌∙◌}
 use mathlib.Core.List.{List, [], ◌∷◌, ◌++◌, append_assoc}
 use native.Mathlib.Numerals.{add-one}
 use native.Mathlib.Omega.{arith}
-use lib.ListN.{length, take, drop, get_or, set, drop_of_length-le}
-use lib.Seq.{take-suc, take_all, length-take-le, set_at}
-use Rattle.parse_numbers.specs.Bytes.{Bytes, byte_of, joined, pairs_of, bytes_of, count_of, put_of, list_of, or_zero}
-use Rattle.parse.proofs.Turns.{stands}
-use Rattle.parse_numbers.proofs.Values.{is_not}
+use lib.ListN.{length, take, drop, get_or, set}
+use lib.Seq.{take-suc, length-take-le, set_at}
+use Rattle.std.proofs.lemmas.List.{take_min, drop_min}
+use Rattle.parse_numbers.specs.Bytes.{Bytes, byte_of, joined, pairs_of, bytes_of, count_of, put_of}
+use Rattle.parse_numbers.proofs.Values.{stands, is_not}
 use Rattle.parse_numbers.proofs.Pairs.{bytes_length}
+
+-- no bytes where there are none
+unfoldable pub list_of : Bytes → List ℕ
+list_of (Some l) = l
+list_of None = []
 
 -- two digits to each byte
 pub listed_within : (text : List ℕ) → 2 * length (list_of (bytes_of text)) ≤ length text
@@ -22,13 +28,13 @@ listed_within text = from (bytes_of text) (bytes_length text)
     from None p = omega arith
 
 pairs_byte : (text : List ℕ) (i : ℕ) → i < length (list_of (pairs_of text)) →
-    or_zero (byte_of (get_or text (2 * i) 0) (get_or text (2 * i + 1) 0)) ≡ get_or (list_of (pairs_of text)) i 0
-unfolding pairs_of list_of joined or_zero
+    unwrap_or (byte_of (get_or text (2 * i) 0) (get_or text (2 * i + 1) 0)) 0 ≡ get_or (list_of (pairs_of text)) i 0
+unfolding pairs_of list_of joined
 pairs_byte [] i h = absurd (let f : ⊥ = omega arith in f)
 pairs_byte (a ∷ []) i h = absurd (let f : ⊥ = omega arith in f)
 pairs_byte (a ∷ b ∷ text) zero h = from (byte_of a b) (pairs_of text) h
   where
-    from : (x : (Option ℕ)) (y : Bytes) → 0 < length (list_of (joined x y)) → or_zero x ≡ get_or (list_of (joined x y)) 0 0
+    from : (x : (Option ℕ)) (y : Bytes) → 0 < length (list_of (joined x y)) → unwrap_or x 0 ≡ get_or (list_of (joined x y)) 0 0
     from (Some v) (Some l) g = refl
     from (Some v) None g = absurd (let f : ⊥ = omega arith in f)
     from None y g = absurd (let f : ⊥ = omega arith in f)
@@ -38,14 +44,14 @@ pairs_byte (a ∷ b ∷ text) (suc i) h =
     rw (d, e) (from (byte_of a b) (pairs_of text) (pairs_byte text i) h)
   where
     from :
-        (x : (Option ℕ)) (y : Bytes) → (i < length (list_of y) → or_zero (byte_of (get_or text (2 * i) 0) (get_or text (2 * i + 1) 0)) ≡ get_or (list_of y) i 0) →
-        suc i < length (list_of (joined x y)) → or_zero (byte_of (get_or text (2 * i) 0) (get_or text (2 * i + 1) 0)) ≡ get_or (list_of (joined x y)) (suc i) 0
+        (x : (Option ℕ)) (y : Bytes) → (i < length (list_of y) → unwrap_or (byte_of (get_or text (2 * i) 0) (get_or text (2 * i + 1) 0)) 0 ≡ get_or (list_of y) i 0) →
+        suc i < length (list_of (joined x y)) → unwrap_or (byte_of (get_or text (2 * i) 0) (get_or text (2 * i + 1) 0)) 0 ≡ get_or (list_of (joined x y)) (suc i) 0
     from (Some v) (Some l) p g = p (omega arith)
     from (Some v) None p g = absurd (let f : ⊥ = omega arith in f)
     from None y p g = absurd (let f : ⊥ = omega arith in f)
 
 pub byte_at : (text : List ℕ) (i : ℕ) → i < length (list_of (bytes_of text)) →
-    or_zero (byte_of (get_or text (2 * i) 0) (get_or text (2 * i + 1) 0)) ≡ get_or (list_of (bytes_of text)) i 0
+    unwrap_or (byte_of (get_or text (2 * i) 0) (get_or text (2 * i + 1) 0)) 0 ≡ get_or (list_of (bytes_of text)) i 0
 unfolding bytes_of list_of
 byte_at [] i h = absurd (let f : ⊥ = omega arith in f)
 byte_at (a ∷ text) i h = pairs_byte (a ∷ text) i h
@@ -69,19 +75,13 @@ unfolding count_of list_of
 count_is n (Some l) e = cc
 count_is n None e = is_not (sym e)
 
-module _ (out : List ℕ) (n : ℕ) where
-  pub put_some : (y : Bytes) → count_of y ≡ Some n → length out < n → take (length out) (list_of y) ++ drop (length out) out ≡ put_of y out
-  unfolding count_of list_of put_of
-  put_some (Some l) e h =
-      let k : length l ≡ n = cc in
-      ap (λ (t : List ℕ). take (length out) l ++ t)
-      (drop_of_length-le out {i = length out} (omega arith) ∙ sym (drop_of_length-le out {i = length l} (omega arith)))
-  put_some None e h = is_not (sym e)
-
-  pub put_all : (y : Bytes) → count_of y ≡ Some n → n ≤ length out → take n (list_of y) ++ drop n out ≡ put_of y out
-  unfolding count_of list_of put_of
-  put_all (Some l) e h =
-      let k : length l ≡ n = cc in
-      ap₂ (λ (s t : List ℕ). s ++ t)
-      (take_all n l (omega arith) ∙ sym (take_all (length out) l (omega arith))) (ap (λ (m : ℕ). drop m out) (sym k))
-  put_all None e h = is_not (sym e)
+pub put_least : (out : List ℕ) (n m : ℕ) (y : Bytes) → count_of y ≡ Some n → m ≡ min n (length out) → take m (list_of y) ++ drop m out ≡ put_of y out
+unfolding count_of list_of put_of
+put_least out n m (Some l) e h =
+    let k : n ≡ length l = cc in
+    let s : m ≡ min (length out) (length l) = omega arith in
+    let r : m ≡ min (length l) (length out) = omega arith in
+    ap₂ (λ (a b : List ℕ). a ++ b)
+    (ap (λ (i : ℕ). take i l) s ∙ take_min (length out) l)
+    (ap (λ (i : ℕ). drop i out) r ∙ drop_min (length l) out)
+put_least out n m None e h = is_not (sym e)

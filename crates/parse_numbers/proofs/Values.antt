@@ -6,12 +6,17 @@ use mathlib.Core.List.{List, [], ◌∷◌}
 use mathlib.Core.Logic.{ite, if_pos, if_neg}
 use native.Mathlib.Decide.{dec_lt}
 use native.Mathlib.Omega.{arith}
+use native.Mathlib.Numerals.{add-one}
 use lib.ListN.{length, drop, get_or, drop_of_length-le}
+use lib.Seq.{drop-cons}
 use Rattle.parse_numbers.specs.Numbers.{counted_of, digit_of, longer_by, spelled, fitting, decimal_of}
-use Rattle.parse.proofs.Turns.{stands}
 
 pub is_not : {p : Type 0} {n : ℕ} → Some n ≡ None → p
 is_not e = absurd (let z : ◌≡◌ {A = ℕ} 0 1 = cc in let f : ⊥ = omega arith in f)
+
+-- byte i, and what follows it
+pub stands : (text : List ℕ) (i : ℕ) → i < length text → drop i text ≡ get_or text i 0 ∷ drop (i + 1) text
+stands text i h = rw (add-one) (drop-cons text i 0 h)
 
 -- ---- a byte
 
@@ -30,6 +35,8 @@ module _ (least most first b : ℕ) (other : (Option ℕ)) where
       sym
       (if_neg (dec_lt b least) (λ g. let f : ⊥ = omega arith in f) other _
       ∙ if_neg (dec_lt most b) (λ g. let f : ⊥ = omega arith in f) other _)
+
+pub ruleset counting = (counted_low, counted_high, counted_within)
 
 pub counted_small :
     (k least most first b : ℕ) (other : (Option ℕ)) (d : ℕ) → most - least + first < k → ((e : ℕ) → other ≡ Some e → e < k) →
@@ -64,6 +71,8 @@ module _ (n : ℕ) (found : (Option ℕ)) where
   pub longer_large : (d : ℕ) → found ≡ Some d → 2 ^ 64 ≤ 10 * n + d → None ≡ fitting (longer_by 10 (Some n) found)
   unfolding longer_by
   longer_large d e h = rw e (too_large (10 * n + d) h)
+
+pub ruleset longer_cases = (longer_none, longer_fits, longer_large)
 
 -- ---- a text
 

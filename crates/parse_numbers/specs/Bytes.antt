@@ -40,15 +40,3 @@ count_of None = None
 unfoldable pub put_of : Bytes → List ℕ → List ℕ
 put_of (Some l) out = take (length out) l ++ drop (length l) out
 put_of None out = out
-
--- ---- for the parts of `unhex`
-
--- no bytes where there are none
-unfoldable pub list_of : Bytes → List ℕ
-list_of (Some l) = l
-list_of None = []
-
--- 0 where there is none
-unfoldable pub or_zero : Option ℕ → ℕ
-or_zero (Some n) = n
-or_zero None = 0

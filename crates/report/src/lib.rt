@@ -70,11 +70,8 @@ fn put_sessions(out: &mut [u8], at: usize, show: Show, counts: [u32; 16], times:
     requires fits_at { FitsAt out.old at (session_lines (load_of show) (set_of counts) show.playing) }
     ensures { Put out.old at (session_lines (load_of show) (set_of counts) show.playing) out.new result }
 {
-    let sessions = show.sessions;
     let mut next = at;
-    let mut i = 0;
-    while i < show.playing {
-        let session = sessions[i];
+    for i in 0..show.playing {
         next = put_session(
             out,
             next,
@@ -82,9 +79,8 @@ fn put_sessions(out: &mut [u8], at: usize, show: Show, counts: [u32; 16], times:
             counts[i],
             times[i],
             show.drive.block,
-            session.cushion,
+            show.sessions[i].cushion,
         );
-        i += 1;
     }
     next
 }
@@ -95,8 +91,6 @@ fn put_accepted(out: &mut [u8], show: Show, decision: Decision) -> usize
     requires fits_at { FitsAt out.old 0 (accepted_text (load_of show) (set_of decision.counts)) }
     ensures { Put out.old 0 (accepted_text (load_of show) (set_of decision.counts)) out.new result }
 {
-    let counts = decision.counts;
-    let times = decision.times;
     let next = text::put_paired(
         out,
         0,
@@ -106,7 +100,7 @@ fn put_accepted(out: &mut [u8], show: Show, decision: Decision) -> usize
         decision.round,
         b"\n",
     );
-    put_sessions(out, next, show, counts, times)
+    put_sessions(out, next, show, decision.counts, decision.times)
 }
 
 // The text for a file, into a buffer that takes every text.
@@ -115,17 +109,14 @@ fn put_text(file: &[u8], out: &mut [u8]) -> usize
     ensures { Texted (TextIs file.now) out.old out.new result }
 {
     let got = showfile::read(file);
-    let check = got.check;
-    if let Err(why) = check {
+    if let Err(why) = got.check {
         return put_refusal(out, why);
     }
-    let show = got.show;
-    let decision = verdict::decide(show);
-    let verdict = decision.verdict;
-    if let Err(why) = verdict {
+    let decision = verdict::decide(got.show);
+    if let Err(why) = decision.verdict {
         return put_refusal(out, why);
     }
-    put_accepted(out, show, decision)
+    put_accepted(out, got.show, decision)
 }
 
 // Puts the text from the buffer's first byte on and answers its length; or 16, where the buffer would not take every text.

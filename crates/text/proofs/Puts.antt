@@ -139,3 +139,42 @@ module _ (was : List ℕ) (at : ℕ) (so_far : ℕ → List ℕ) (n : ℕ) where
             same = k ∙ h.same;
             put = put_as (sym (more i l)) (put_then (so_far i) (piece i) room_up h.put p);
           }
+
+-- ---- what is left to put
+
+-- the rest of a text, from `next` on, would make it whole
+pub record Rest (was : List ℕ) (at : ℕ) (whole out : List ℕ) (next : ℕ) (rest : List ℕ) : Type 0 where
+  pub same : length out ≡ length was
+  pub room : next + length rest ≤ length out
+  pub upto : next + length rest ≡ at + length whole
+  pub bytes : over out next rest ≡ over was at whole
+
+pub rest_begun : {was : List ℕ} {at : ℕ} {whole : List ℕ} → FitsAt was at whole → Rest was at whole was at whole
+rest_begun r = record { same = refl; room = r.fits; upto = refl; bytes = refl }
+
+module _ {was : List ℕ} {at : ℕ} {whole out : List ℕ} {next : ℕ} {rest : List ℕ} (h : Rest was at whole out next rest) where
+  -- a piece of it ..
+  module _ (piece more : List ℕ) (e : rest ≡ piece ++ more) where
+    rest_fits : FitsAt out next (piece ++ more)
+    rest_fits = record { fits = (let r = h.room in rw e at r) }
+
+    pub rest_room : FitsAt out next piece
+    rest_room = room_first piece more rest_fits
+
+    -- .. leaves what is behind it
+    pub rest_put : {after : List ℕ} {to : ℕ} → length after ≡ length out → Put out next piece after to → Rest was at whole after to more
+    rest_put {after} {to} k p =
+        let q = put_then piece more rest_fits p {after = over after to more} {next = to + length more} (record { bytes = refl; upto = refl }) in
+        record {
+          same = k ∙ h.same;
+          room = (let r = (room_then piece more rest_fits p k).fits in r);
+          upto = q.upto ∙ ap (λ (x : List ℕ). next + length x) (sym e) ∙ h.upto;
+          bytes = q.bytes ∙ ap (over out next) (sym e) ∙ h.bytes;
+        }
+
+  pub rest_ended : rest ≡ [] → Put was at whole out next
+  rest_ended e =
+      record {
+        bytes = over_nothing out next ∙ ap (over out next) (sym e) ∙ h.bytes;
+        upto = (let u = h.upto in omega (arith, ap length e));
+      }

@@ -1,5 +1,6 @@
 // Text put into a lent buffer at a place. Each call answers the place after what it put; where the text does not fit, no byte
 // changes, and it answers the place that was given.
+// `out` and `at` always go together, but no record has both: the contracts of put_word, put_numbered and put_paired name each of them.
 #![tactic(auto)]
 
 ghost use Rattle.std.specs.Prelude.{◌≡◌, ◌∷◌, ◌++◌, [], ◌+◌, ◌≤◌, ◌<◌, length};
@@ -63,72 +64,26 @@ pub fn put_paired(
 fn fits(len: usize, at: usize, first: usize, second: usize, third: usize) -> bool
     ensures { Tells result (at + (first + (second + third)) ≤ len) }
 {
-    if len < at {
-        return false;
-    }
-    let room = len - at;
-    if room < first {
-        return false;
-    }
-    let rest = room - first;
-    if rest < second {
-        return false;
-    }
-    if rest - second < third {
-        return false;
-    }
-    true
+    at <= len
+        && first <= len - at
+        && second <= len - at - first
+        && third <= len - at - first - second
 }
 
-// How many digits a number has: four at a time, since a division is dear.
+// How many digits a number has; 0 has one, as 1 does.
 pub fn width(n: u64) -> usize
     ensures { result ≡ length (decimal n) }
 {
-    let mut left = n;
-    let mut digits = 0;
-    while left >= 10000 {
-        left = left / 10000;
-        digits += 4;
-    }
-    digits + short_width(left)
-}
-
-fn short_width(n: u64) -> usize
-    requires { n < 10000 }
-    ensures { result ≡ length (decimal n) }
-{
-    if n < 10 {
-        return 1;
-    }
-    if n < 100 {
-        return 2;
-    }
-    if n < 1000 {
-        return 3;
-    }
-    4
-}
-
-fn put_byte(out: &mut [u8], at: usize, b: u8) -> usize
-    requires { FitsAt out.old at (b ∷ []) }
-    ensures { Put out.old at (b ∷ []) out.new result }
-{
-    out[at] = b;
-    at + 1
+    n.max(1).ilog10() as usize + 1
 }
 
 fn put_bytes(out: &mut [u8], at: usize, word: &[u8]) -> usize
     requires { FitsAt out.old at word.now }
     ensures { Put out.old at word.now out.new result }
 {
-    let n = word.len();
-    let mut i = 0;
-    let mut next = at;
-    while i < n {
-        next = put_byte(out, next, word[i]);
-        i += 1;
-    }
-    next
+    let end = at + word.len();
+    out[at..end].copy_from_slice(word);
+    end
 }
 
 // The digits of a number, backwards from where they end.
@@ -138,13 +93,11 @@ fn put_decimal(out: &mut [u8], at: usize, digits: usize, n: u64) -> usize
     ensures { Put out.old at (decimal n) out.new result }
 {
     let end = at + digits;
-    let mut last = end - 1;
     let mut left = n;
-    while left >= 10 {
-        out[last] = b'0' + (left % 10) as u8;
-        left = left / 10;
-        last -= 1;
+    for i in (at + 1..end).rev() {
+        out[i] = b'0' + (left % 10) as u8;
+        left /= 10;
     }
-    out[last] = b'0' + left as u8;
+    out[at] = b'0' + left as u8;
     end
 }

@@ -1,112 +1,88 @@
 -- Laws of a form with its numbers: what one byte of it is, and one byte more. Assumes nothing.
-use mathlib.Core.Path.{◌≡◌, refl, sym, ap, ◌∙◌}
+use mathlib.Core.Path.{◌≡◌, refl, ap, sym, ◌∙◌}
 use mathlib.Core.Logic.{ite, if_pos, if_neg}
-use mathlib.Core.List.{List, [], ◌∷◌, ◌++◌, append_assoc, append-nil}
-use Prim.Native.Nat.{ℕ, suc, ◌+◌, ◌≤◌, ◌<◌}
-use native.Mathlib.Nat.{zero-add}
-use native.Mathlib.Numerals.{add-one}
+use mathlib.Core.List.{List, [], ◌∷◌, ◌++◌, append-nil}
+use Prim.Native.Nat.{ℕ, ◌+◌, ◌-◌, ◌≤◌, ◌<◌}
 use native.Mathlib.Decide.{ℕ_discrete}
 use native.Mathlib.Omega.{arith}
-use lib.ListN.{length, get_or, take, drop, drop_of_length-le}
-use lib.Seq.{take-suc, take-length, drop-cons, drop-drop}
+use lib.ListN.{length, get_or, take, drop, length-drop, drop_of_length-le}
+use lib.Seq.{take_all}
+use Rattle.std.specs.Prelude.{Some, None, slice_get}
+use Rattle.std.proofs.lemmas.List.{drop_more}
 use Rattle.text.specs.Decimal.{decimal}
-use Rattle.text_forms.specs.Forms.{next_text, form_text, marks_of, piece_text}
+use Rattle.text_forms.specs.Forms.{next_text, form_text, piece_text, left_after}
 
 -- ---- one byte
 
-module _ (b : ℕ) (numbers : List ℕ) (used : ℕ) where
-  pub piece_byte : (b ≡ 35 → ⊥) → piece_text b numbers used ≡ b ∷ []
+module _ (b : ℕ) (numbers : List ℕ) where
+  pub piece_byte : (b ≡ 35 → ⊥) → piece_text b numbers ≡ b ∷ []
   unfolding form_text
   piece_byte h = if_neg (ℕ_discrete b 35) h _ _
 
-  piece_next : b ≡ 35 → piece_text b numbers used ≡ next_text (drop used numbers)
+  pub piece_next : b ≡ 35 → piece_text b numbers ≡ next_text numbers
   unfolding form_text
-  piece_next h = if_pos (ℕ_discrete b 35) h _ _ ∙ append-nil (next_text (drop used numbers))
+  piece_next h = if_pos (ℕ_discrete b 35) h _ _ ∙ append-nil (next_text numbers)
 
-  pub piece_number : b ≡ 35 → used < length numbers → piece_text b numbers used ≡ decimal (get_or numbers used 0)
-  unfolding next_text
-  piece_number h l = piece_next h ∙ ap next_text (drop-cons numbers used 0 l)
+  pub left_mark : b ≡ 35 → take (length numbers - 1) (drop 1 numbers) ≡ left_after b numbers
+  unfolding left_after
+  left_mark h = take_all (length numbers - 1) (drop 1 numbers) (omega (arith, length-drop 1 numbers)) ∙ sym (if_pos (ℕ_discrete b 35) h _ _)
 
-  pub piece_none : b ≡ 35 → length numbers ≤ used → piece_text b numbers used ≡ []
-  unfolding next_text
-  piece_none h l = piece_next h ∙ ap next_text (drop_of_length-le numbers l)
+  pub left_none : length numbers ≡ 0 → numbers ≡ left_after b numbers
+  unfolding left_after
+  left_none h = from numbers h (ℕ_discrete b 35)
+    where
+      from : (l : List ℕ) → length l ≡ 0 → (d : Dec (b ≡ 35)) → l ≡ ite d (drop 1 l) l
+      from [] h (yes e) = refl
+      from [] h (no e) = refl
+      from (n ∷ l) h d = absurd (let f : ⊥ = omega arith in f)
 
-pub mark_one : (b : ℕ) → b ≡ 35 → marks_of (b ∷ []) ≡ 1
-unfolding marks_of
-mark_one b h = if_pos (ℕ_discrete b 35) h _ _
+  pub left_byte : (b ≡ 35 → ⊥) → numbers ≡ left_after b numbers
+  unfolding left_after
+  left_byte h = sym (if_neg (ℕ_discrete b 35) h _ _)
 
-pub mark_none : (b : ℕ) → (b ≡ 35 → ⊥) → marks_of (b ∷ []) ≡ 0
-unfolding marks_of
-mark_none b h = if_neg (ℕ_discrete b 35) h _ _
+  pub size_byte : (b ≡ 35 → ⊥) → length (piece_text b numbers) ≡ 1
+  size_byte h = ap length (piece_byte h)
 
--- ---- one byte more
+  -- ---- one byte more
+  form_then : (form : List ℕ) → form_text (b ∷ form) numbers ≡ piece_text b numbers ++ form_text form (left_after b numbers)
+  unfolding form_text left_after
+  form_then form = from (ℕ_discrete b 35)
+    where
+      from :
+          (d : Dec (b ≡ 35)) →
+          ite d (next_text numbers ++ form_text form (drop 1 numbers)) (b ∷ form_text form numbers)
+          ≡ ite d (next_text numbers ++ []) (b ∷ []) ++ form_text form (ite d (drop 1 numbers) numbers)
+      from (yes e) = ap (λ (x : List ℕ). x ++ form_text form (drop 1 numbers)) (sym (append-nil (next_text numbers)))
+      from (no e) = refl
 
-marks_then : (form rest : List ℕ) → marks_of (form ++ rest) ≡ marks_of form + marks_of rest
-unfolding marks_of
-marks_then [] rest = sym (zero-add (marks_of rest))
-marks_then (b ∷ form) rest = from (ℕ_discrete b 35) (marks_then form rest)
-  where
-    from :
-        (d : Dec (b ≡ 35)) → marks_of (form ++ rest) ≡ marks_of form + marks_of rest →
-        ite d (suc (marks_of (form ++ rest))) (marks_of (form ++ rest)) ≡ ite d (suc (marks_of form)) (marks_of form) + marks_of rest
-    from (yes e) h = omega arith
-    from (no e) h = h
+pub piece_number : (b n : ℕ) (numbers : List ℕ) → b ≡ 35 → slice_get numbers 0 ≡ Some n → piece_text b numbers ≡ decimal n
+unfolding next_text
+piece_number b n [] h e = absurd cc
+piece_number b n (m ∷ numbers) h e = piece_next b (m ∷ numbers) h ∙ ap decimal (let k : m ≡ n = cc in k)
 
-abbrev Then : List ℕ → List ℕ → List ℕ → Type 0
-Then form rest numbers = form_text (form ++ rest) numbers ≡ form_text form numbers ++ form_text rest (drop (marks_of form) numbers)
+pub piece_none : (b : ℕ) (numbers : List ℕ) → b ≡ 35 → slice_get numbers 0 ≡ None → piece_text b numbers ≡ []
+unfolding next_text
+piece_none b [] h e = piece_next b [] h
+piece_none b (n ∷ numbers) h e = absurd cc
 
-form_then : (form rest numbers : List ℕ) → Then form rest numbers
-unfolding form_text marks_of
-form_then [] rest numbers = refl
-form_then (b ∷ form) rest numbers = from (ℕ_discrete b 35) (form_then form rest numbers) (form_then form rest (drop 1 numbers))
-  where
-    from :
-        (d : Dec (b ≡ 35)) → Then form rest numbers → Then form rest (drop 1 numbers) →
-        ite d (next_text numbers ++ form_text (form ++ rest) (drop 1 numbers)) (b ∷ form_text (form ++ rest) numbers)
-        ≡ ite d (next_text numbers ++ form_text form (drop 1 numbers)) (b ∷ form_text form numbers)
-        ++ form_text rest (drop (ite d (suc (marks_of form)) (marks_of form)) numbers)
-    from (yes e) h g =
-        let k : 1 + marks_of form ≡ suc (marks_of form) = omega arith in
-        ap (λ (x : List ℕ). next_text numbers ++ x) g
-        ∙ sym (append_assoc (next_text numbers) (form_text form (drop 1 numbers)) _)
-        ∙ ap (λ (x : List ℕ). (next_text numbers ++ form_text form (drop 1 numbers)) ++ form_text rest x)
-        (drop-drop (marks_of form) 1 numbers ∙ ap (λ (n : ℕ). drop n numbers) k)
-    from (no e) h g = ap (λ (x : List ℕ). b ∷ x) h
+pub size_none : (b : ℕ) (numbers : List ℕ) → b ≡ 35 → slice_get numbers 0 ≡ None → length (piece_text b numbers) ≡ 0
+size_none b numbers h e = ap length (piece_none b numbers h e)
 
--- A loop stands at byte i, and has used as many numbers as there are # before it.
-pub record Used (form : List ℕ) (used i : ℕ) : Type 0 where
-  pub few : used ≤ i
-  pub all : used ≡ marks_of (take i form)
+pub size_number : (b n : ℕ) (numbers : List ℕ) → b ≡ 35 → slice_get numbers 0 ≡ Some n → length (piece_text b numbers) ≡ length (decimal n)
+size_number b n numbers h e = ap length (piece_number b n numbers h e)
 
-pub used_begun : (form : List ℕ) → Used form 0 0
-unfolding marks_of
-used_begun form = record { few = omega arith; all = refl }
+pub ruleset left_cases = (left_mark, left_byte, left_none)
 
-module _ (form : List ℕ) (i : ℕ) (l : i < length form) where
-  one_more : take (i + 1) form ≡ take i form ++ (get_or form i 0 ∷ [])
-  one_more = ap (λ (k : ℕ). take k form) (add-one i) ∙ take-suc form i 0 l
+pub ruleset piece_cases = (size_byte, size_none, size_number)
 
-  pub used_more : (used n : ℕ) → Used form used i → n ≡ marks_of (get_or form i 0 ∷ []) → n ≤ 1 → Used form (used + n) (i + 1)
-  used_more used n u e h =
-      let s = u.all in
-      let f = u.few in
-      record { few = omega arith; all = omega (arith, ap marks_of one_more, marks_then (take i form) (get_or form i 0 ∷ [])) }
+-- a loop stands at byte i
+pub form_more :
+    (form numbers : List ℕ) (i : ℕ) → i < length form →
+    form_text (drop i form) numbers
+    ≡ piece_text (get_or form i 0) numbers ++ form_text (drop (i + 1) form) (left_after (get_or form i 0) numbers)
+form_more form numbers i h =
+    ap (λ (f : List ℕ). form_text f numbers) (drop_more form i 0 h) ∙ form_then (get_or form i 0) numbers (drop (i + 1) form)
 
--- ---- the pieces of a form's text are those of its bytes
-
-module _ (form numbers : List ℕ) where
-  abbrev pub so_far : ℕ → List ℕ
-  so_far i = form_text (take i form) numbers
-
-  abbrev pub piece : ℕ → List ℕ
-  piece i = piece_text (get_or form i 0) numbers (marks_of (take i form))
-
-  pub piece_more : (i : ℕ) → i < length form → so_far (i + 1) ≡ so_far i ++ piece i
-  piece_more i l = ap (λ (f : List ℕ). form_text f numbers) (one_more form i l) ∙ form_then (take i form) (get_or form i 0 ∷ []) numbers
-
-  pub pieces_whole : so_far (length form) ≡ form_text form numbers
-  pieces_whole = ap (λ (f : List ℕ). form_text f numbers) (take-length form)
-
-  -- what the code makes of byte i is its piece
-  pub piece_here : (i used : ℕ) → Used form used i → piece_text (get_or form i 0) numbers used ≡ piece i
-  piece_here i used u = ap (λ (n : ℕ). piece_text (get_or form i 0) numbers n) u.all
+pub form_end : (form numbers : List ℕ) (i : ℕ) → length form ≤ i → form_text (drop i form) numbers ≡ []
+unfolding form_text
+form_end form numbers i h = ap (λ (f : List ℕ). form_text f numbers) (drop_of_length-le form h)

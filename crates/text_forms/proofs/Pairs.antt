@@ -1,13 +1,12 @@
 -- Laws of bytes in hex: one digit, and one byte more. Assumes nothing.
-use mathlib.Core.Path.{◌≡◌, refl, ap, ◌∙◌}
+use mathlib.Core.Path.{◌≡◌, refl, ap}
 use mathlib.Core.Logic.{if_pos, if_neg}
 use mathlib.Core.List.{List, [], ◌∷◌, ◌++◌}
 use Prim.Native.Nat.{ℕ, ◌+◌, ◌-◌, ◌≤◌, ◌<◌}
-use native.Mathlib.Numerals.{add-one}
 use native.Mathlib.Decide.{dec_lt}
 use native.Mathlib.Omega.{arith}
-use lib.ListN.{length, get_or, take}
-use lib.Seq.{take-suc, take-length}
+use lib.ListN.{length, get_or, drop, drop_of_length-le}
+use Rattle.std.proofs.lemmas.List.{drop_more}
 use Rattle.text_forms.specs.Hex.{hex_digit, pair_text, pairs_text, hex_text}
 
 pub digit_low : (d : ℕ) → d < 10 → hex_digit d ≡ 48 + d
@@ -17,11 +16,6 @@ digit_low d h = if_pos (dec_lt d 10) h _ _
 pub digit_high : (d : ℕ) → 10 ≤ d → hex_digit d ≡ 97 + (d - 10)
 unfolding hex_digit
 digit_high d h = if_neg (dec_lt d 10) (λ l. (let z : ⊥ = omega arith in z)) _ _
-
-pairs_then : (bytes rest : List ℕ) → pairs_text (bytes ++ rest) ≡ pairs_text bytes ++ pairs_text rest
-unfolding pairs_text
-pairs_then [] rest = refl
-pairs_then (b ∷ bytes) rest = ap (λ (x : List ℕ). pair_text b ++ x) (pairs_then bytes rest)
 
 pub pairs_length : (bytes : List ℕ) → length (pairs_text bytes) ≡ length bytes + length bytes
 unfolding pairs_text
@@ -39,19 +33,12 @@ unfolding hex_text
 hex_none [] h = refl
 hex_none (b ∷ bytes) h = absurd (let z : ⊥ = omega arith in z)
 
--- ---- the pieces are the bytes
+-- a loop stands at byte i
+pub pairs_more :
+    (bytes : List ℕ) (i : ℕ) → i < length bytes → pairs_text (drop i bytes) ≡ pair_text (get_or bytes i 0) ++ pairs_text (drop (i + 1) bytes)
+unfolding pairs_text
+pairs_more bytes i h = ap pairs_text (drop_more bytes i 0 h)
 
-module _ (bytes : List ℕ) where
-  abbrev pub so_far : ℕ → List ℕ
-  so_far i = pairs_text (take i bytes)
-
-  abbrev pub piece : ℕ → List ℕ
-  piece i = pair_text (get_or bytes i 0)
-
-  pub piece_more : (i : ℕ) → i < length bytes → so_far (i + 1) ≡ so_far i ++ piece i
-  unfolding pairs_text
-  piece_more i l =
-      ap (λ (k : ℕ). so_far k) (add-one i) ∙ ap pairs_text (take-suc bytes i 0 l) ∙ pairs_then (take i bytes) (get_or bytes i 0 ∷ [])
-
-  pub pieces_whole : so_far (length bytes) ≡ pairs_text bytes
-  pieces_whole = ap pairs_text (take-length bytes)
+pub pairs_end : (bytes : List ℕ) (i : ℕ) → length bytes ≤ i → pairs_text (drop i bytes) ≡ []
+unfolding pairs_text
+pairs_end bytes i h = ap pairs_text (drop_of_length-le bytes h)

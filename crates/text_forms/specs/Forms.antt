@@ -1,5 +1,5 @@
 -- A form with its numbers, as bytes.
-use Rattle.std.specs.Prelude.{ℕ, suc, List, [], ◌∷◌, ◌++◌, drop}
+use Rattle.std.specs.Prelude.{ℕ, List, [], ◌∷◌, ◌++◌, drop}
 use Rattle.std.proofs.Math.Logic.{ite}
 use Rattle.std.proofs.Math.Decide.{ℕ_discrete}
 use Rattle.text.specs.Decimal.{decimal}
@@ -16,11 +16,10 @@ form_text (b ∷ form) numbers = ite (ℕ_discrete b 35) (next_text numbers ++ f
 
 -- ---- for the parts of `put_form`
 
--- how many # a form has
-unfoldable pub marks_of : List ℕ → ℕ
-marks_of [] = 0
-marks_of (b ∷ form) = ite (ℕ_discrete b 35) (suc (marks_of form)) (marks_of form)
+-- the text of one byte of a form
+abbrev pub piece_text : ℕ → List ℕ → List ℕ
+piece_text b numbers = form_text (b ∷ []) numbers
 
--- the text of one byte of a form, before which it has `used` of them
-abbrev pub piece_text : ℕ → List ℕ → ℕ → List ℕ
-piece_text b numbers used = form_text (b ∷ []) (drop used numbers)
+-- the numbers that it leaves
+unfoldable pub left_after : ℕ → List ℕ → List ℕ
+left_after b numbers = ite (ℕ_discrete b 35) (drop 1 numbers) numbers

@@ -11,31 +11,20 @@ pub fn put_hex(out: &mut [u8], at: usize, bytes: &[u8]) -> usize
     ensures out_after { out.new ≡ put_over out.old at (hex_text bytes.now) }
     ensures value { result ≡ put_to out.old at (hex_text bytes.now) }
 {
-    let n = bytes.len();
-    if n == 0 {
+    if bytes.is_empty() {
         return put_word(out, at, b"-");
     }
-    if !pairs_fit(out.len(), at, n) {
+    if !pairs_fit(out.len(), at, bytes.len()) {
         return at;
     }
     put_pairs(out, at, bytes)
 }
 
-// Whether two digits fit for each of n bytes: the room that is left is counted down, so that no sum overflows.
+// Whether two digits fit for each of n bytes: the room is counted down, so that no sum overflows.
 fn pairs_fit(len: usize, at: usize, n: usize) -> bool
     ensures { Tells result (at + (n + n) ≤ len) }
 {
-    if len < at {
-        return false;
-    }
-    let room = len - at;
-    if room < n {
-        return false;
-    }
-    if room - n < n {
-        return false;
-    }
-    true
+    at <= len && n <= len - at && n <= len - at - n
 }
 
 fn put_pairs(out: &mut [u8], at: usize, bytes: &[u8]) -> usize
@@ -43,10 +32,8 @@ fn put_pairs(out: &mut [u8], at: usize, bytes: &[u8]) -> usize
     ensures { Put out.old at (pairs_text bytes.now) out.new result }
 {
     let mut next = at;
-    let mut i = 0;
-    while i < bytes.len() {
-        next = put_pair(out, next, bytes[i]);
-        i += 1;
+    for b in bytes {
+        next = put_pair(out, next, *b);
     }
     next
 }

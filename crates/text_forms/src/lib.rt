@@ -7,7 +7,7 @@ pub mod hex;
 ghost use Rattle.std.specs.Prelude.{◌≡◌, ◌∷◌, [], ◌+◌, ◌≤◌, length};
 ghost use Rattle.show.specs.Limits.{Tells};
 ghost use Rattle.text.specs.Puts.{put_over, put_to, FitsAt, Put};
-ghost use Rattle.text_forms.specs.Forms.{form_text, marks_of, piece_text};
+ghost use Rattle.text_forms.specs.Forms.{form_text, piece_text, left_after};
 
 use text::{put_numbered, put_word, width};
 
@@ -30,17 +30,14 @@ fn form_fits(len: usize, at: usize, form: &[u8], numbers: &[u64]) -> bool
         return false;
     }
     let mut room = len - at;
-    let mut used = 0;
-    let mut i = 0;
-    while i < form.len() {
-        let b = form[i];
-        let size = piece_size(b, numbers, used);
+    let mut left = numbers;
+    for b in form {
+        let size = piece_size(*b, left);
         if room < size {
             return false;
         }
         room -= size;
-        used += marks(b);
-        i += 1;
+        left = left_of(*b, left);
     }
     true
 }
@@ -50,49 +47,48 @@ fn put_pieces(out: &mut [u8], at: usize, form: &[u8], numbers: &[u64]) -> usize
     ensures { Put out.old at (form_text form.now numbers.now) out.new result }
 {
     let mut next = at;
-    let mut used = 0;
-    let mut i = 0;
-    while i < form.len() {
-        let b = form[i];
-        next = put_piece(out, next, b, numbers, used);
-        used += marks(b);
-        i += 1;
+    let mut left = numbers;
+    for b in form {
+        next = put_piece(out, next, *b, left);
+        left = left_of(*b, left);
     }
     next
 }
 
-// One byte of the form, before which it has used so many numbers.
-fn put_piece(out: &mut [u8], at: usize, b: u8, numbers: &[u64], used: usize) -> usize
-    requires { FitsAt out.old at (piece_text b numbers.now used) }
-    ensures { Put out.old at (piece_text b numbers.now used) out.new result }
+// One byte of the form, with the numbers that are left.
+fn put_piece(out: &mut [u8], at: usize, b: u8, numbers: &[u64]) -> usize
+    requires { FitsAt out.old at (piece_text b numbers.now) }
+    ensures { Put out.old at (piece_text b numbers.now) out.new result }
 {
     if b != b'#' {
         return put_word(out, at, &[b]);
     }
-    if numbers.len() <= used {
-        return at;
+    match numbers.first() {
+        Some(n) => put_numbered(out, at, b"", *n, b""),
+        None => at,
     }
-    put_numbered(out, at, b"", numbers[used], b"")
 }
 
-fn piece_size(b: u8, numbers: &[u64], used: usize) -> usize
-    ensures { result ≡ length (piece_text b numbers.now used) }
+#[tactic(auto, using(crate::proofs::Forms::piece_cases))]
+fn piece_size(b: u8, numbers: &[u64]) -> usize
+    ensures { result ≡ length (piece_text b numbers.now) }
 {
     if b != b'#' {
         return 1;
     }
-    if numbers.len() <= used {
-        return 0;
+    match numbers.first() {
+        Some(n) => width(*n),
+        None => 0,
     }
-    width(numbers[used])
 }
 
-fn marks(b: u8) -> usize
-    ensures value { result ≡ marks_of (b ∷ []) }
-    ensures upper_bound { result ≤ 1 }
+// The numbers that a byte of the form leaves: a # uses one up.
+#[tactic(auto, using(crate::proofs::Forms::left_cases))]
+fn left_of(b: u8, numbers: &[u64]) -> &[u64]
+    ensures { result.now ≡ left_after b numbers.now }
 {
-    if b == b'#' {
-        return 1;
+    match numbers {
+        [_, left @ ..] if b == b'#' => left,
+        _ => numbers,
     }
-    0
 }

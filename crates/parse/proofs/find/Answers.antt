@@ -1,25 +1,13 @@
--- `find` goes on to the first mark. The invariant: the mark that is sought stands first from byte i on. The measure: the bytes that are left.
--- Assumes nothing.
-use native.Mathlib.Omega.{arith}
-use borrow.Author.Rules.{rules}
-use Rattle.parse.proofs.Turns.{found_here, found_later, found_nowhere}
+-- `find` takes the first place of the mark. Assumes nothing.
+use Rattle.std.proofs.Common.{rules, tests, ◌∙◌}
+use Rattle.std.proofs.lemmas.Iterator.{YieldsList-from_slice}
+use Rattle.std.proofs.lemmas.Iterator.Search.{position_from_yields_List}
+use lib.Dec.{eqb}
+use Rattle.parse.proofs.Chains.{place_or_end, find_place}
 use Rattle.parse.proofs.find.Goals as goal
 
-pub returns-then-text-i : goal.returns-then-text-i
-returns-then-text-i c =
-    let e = found_here c.args.mark c.args.text.now c.loop-i.i c.loop-i-test.true c.if-text-i.true in
-    record {
-      value = omega (arith, e);
-      upper_bound = search rules;
-    }
-
-pub loop-i-preserved : goal.loop-i-preserved
-loop-i-preserved c =
-    omega (arith, found_later c.args.mark c.args.text.now c.loop-i.i c.loop-i-test.true c.if-text-i.false)
-
-pub returns : goal.returns
-returns c =
-    record {
-      value = omega (arith, found_nowhere c.args.mark c.args.text.now c.loop-i.i c.loop-i-test.false);
-      upper_bound = search rules;
-    }
+pub returns-clause-value : goal.returns-clause-value
+returns-clause-value c =
+    let e = position_from_yields_List (λ b. eqb b c.args.mark) _ _ c.position.result c.position.ensures.ran
+    (YieldsList-from_slice c.args.text.now c.iter.ensures.rest) (λ x b q k. search (rules, tests)) in
+    c.unwrap_or.ensures ∙ rw e (place_or_end (λ b. eqb b c.args.mark) c.args.text.now ∙ find_place c.args.mark c.args.text.now)

@@ -1,42 +1,25 @@
--- `part` goes past k marks, where there are as many. The invariant: what is sought is part k - i of what stands from `at` on.
--- The measure: the marks that are left.
--- Assumes nothing.
-use Prim.Native.Nat.{◌-◌}
-use mathlib.Core.Path.{◌≡◌, sym, ◌∙◌}
-use native.Mathlib.Omega.{arith}
-use lib.ListN.{drop}
-use Rattle.parse.specs.Parts.{find_of}
-use Rattle.parse.proofs.Turns.{next_within, part_first, part_next}
-use Rattle.parse.proofs.PartLaws.{part_none}
+-- `part` takes part k of the split. Assumes nothing.
+use Rattle.std.proofs.Common.{rules, tests, ◌≡◌, ◌∙◌, ap, [], List, ℕ, refl, Bor}
+use Rattle.std.specs.Prelude.{Option, Some, None}
+use Rattle.std.specs.List.{slice_get, slice_split}
+use Rattle.std.specs.Option.{option_map, unwrap_or}
+use Rattle.std.proofs.lemmas.Iterator.Consumers.{nth_from_yields_List}
+use Rattle.std.proofs.lemmas.Iterator.Splits.{YieldsList-from_slice_split}
+use Rattle.std.proofs.lemmas.Option.{unwrap_or-slice_get}
+use lib.Dec.{eqb}
+use Rattle.parse.proofs.Chains.{part_split}
 use Rattle.parse.proofs.part.Goals as goal
 
-pub returns-then-parts-k : goal.returns-then-parts-k
-returns-then-parts-k c =
-    sym (part_none c.args.mark c.args.k c.args.text.now (omega (arith, c.parts.ensures, c.if-parts-k.true)))
-
-pub loop-i-init : goal.loop-i-init
-loop-i-init c =
-    (omega arith, (omega arith, let e : c.args.k - 0 ≡ c.args.k = omega arith in rw e))
-
-pub loop-i-preserved : goal.loop-i-preserved
-loop-i-preserved c = (
-  omega arith,
-  (
-    omega arith,
-    part_next c.args.mark c.args.text.now c.loop-i.at c.args.k c.loop-i.i c.past-at.result c.loop-i-test.true
-        c.past-at.ensures.1 ∙ c.loop-i.invariant.1.1,
-  ),
-)
-
-pub slice_bounds-result-count : goal.slice_bounds-result-count
-slice_bounds-result-count c =
-    omega arith
-
-pub slice_bounds-result-end-2 : goal.slice_bounds-result-end-2
-slice_bounds-result-end-2 c =
-    omega (arith, next_within c.args.mark c.args.text.now c.loop-i.at c.loop-i.invariant.1.0)
+-- what a part or another stands for
+now_or : (r : Option (Bor (List ℕ))) (d : Bor (List ℕ)) → (unwrap_or r d).now ≡ unwrap_or (option_map (λ x. x.now) r) d.now
+now_or (Some x) d = refl
+now_or None d = refl
 
 pub returns : goal.returns
 returns c =
-    let e : c.next-end.result - c.loop-i.at ≡ find_of c.args.mark (drop c.loop-i.at c.args.text.now) = omega (arith, c.next-end.ensures) in
-    rw e (sym (part_first c.args.mark c.args.text.now c.loop-i.at c.args.k c.loop-i.i c.loop-i-test.false) ∙ c.loop-i.invariant.1.1)
+    let e : option_map (λ x. x.now) c.nth.result ≡ slice_get (slice_split (λ b. eqb b c.args.mark) c.args.text.now) c.args.k =
+    nth_from_yields_List _ _ _ c.nth.ensures.ran
+    (YieldsList-from_slice_split _ (λ b. eqb b c.args.mark) _ (cc) (cc) refl
+    (λ x b q k. search (rules, tests))) in
+    ap (λ (x : Bor (List ℕ)). x.now) c.unwrap_or.ensures ∙ now_or c.nth.result _ ∙ ap (λ (o : Option (List ℕ)). unwrap_or o []) e
+    ∙ unwrap_or-slice_get _ c.args.k [] ∙ part_split c.args.mark c.args.k c.args.text.now

@@ -1,33 +1,21 @@
--- `place_in` looks at one name after the other. The invariant: the word is none of the first k. The measure: the names that are left.
--- Assumes nothing.
-use mathlib.Core.Path.{sym, ◌∙◌}
-use native.Mathlib.Omega.{arith}
-use borrow.Author.Count.{below_more}
-use Rattle.show.proofs.Checks.{tells_yes, tells_no}
+-- `place_in` takes the first place of the word among the parts. Assumes nothing.
+use Rattle.std.proofs.Common.{rules, tests, ◌≡◌, ◌∙◌, sym}
+use Rattle.std.specs.Str.{bytes_eq}
+use Rattle.std.specs.List.{position_or_len, slice_split}
+use Rattle.std.proofs.lemmas.Iterator.Search.{position_from_yields_List}
+use Rattle.std.proofs.lemmas.Iterator.Splits.{YieldsList-from_slice_split}
+use lib.Dec.{eqb}
+use Rattle.parse.proofs.Chains.{place_or_end, parts_split, place_is}
 use Rattle.parse.proofs.place_in.Goals as goal
-
-pub loop-k-init : goal.loop-k-init
-loop-k-init c =
-    (omega arith, λ j l. absurd (let f : ⊥ = omega arith in f))
-
-pub returns-then-same : goal.returns-then-same
-returns-then-same c =
-    let same = tells_yes _ c.same.result c.if-same.true c.same.ensures in
-    record {
-      within = omega (arith, c.parts-n.ensures);
-      before = c.loop-k.invariant.1;
-      found = λ l. sym c.part.ensures ∙ same;
-    }
-
-pub loop-k-preserved : goal.loop-k-preserved
-loop-k-preserved c =
-    let other = tells_no _ c.same.result c.if-same.false c.same.ensures in
-    (omega arith, below_more _ _ c.loop-k.invariant.1 (λ e. other (c.part.ensures ∙ e)))
 
 pub returns : goal.returns
 returns c =
-    record {
-      within = omega (arith, c.parts-n.ensures);
-      before = λ j l. c.loop-k.invariant.1 j (omega arith);
-      found = λ l. absurd (let f : ⊥ = omega (arith, c.parts-n.ensures) in f);
-    }
+    let parts = slice_split (λ b. eqb b 32) c.args.names.now in
+    let e = position_from_yields_List (λ name. bytes_eq name c.args.word.now) _ _ c.position.result c.position.ensures.ran
+    (YieldsList-from_slice_split _ (λ b. eqb b 32) c.args.names.now c.split.ensures.rest c.split.ensures.done c.split.ensures.closure
+    (λ x b q k. search (rules, tests)))
+    (λ x b q k. search (rules, tests)) in
+    let n = c.parts.ensures ∙ sym (parts_split 32 c.args.names.now) in
+    let r : c.unwrap_or.result ≡ position_or_len (λ name. bytes_eq name c.args.word.now) parts =
+    c.unwrap_or.ensures ∙ rw (e, n) (place_or_end (λ name. bytes_eq name c.args.word.now) parts) in
+    rw r (place_is c.args.names.now c.args.word.now)

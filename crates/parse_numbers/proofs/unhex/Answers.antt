@@ -1,41 +1,33 @@
 -- `unhex` looks at the whole text first, then puts all its bytes or as many as there is room for. Assumes nothing.
-use mathlib.Core.Path.{sym, ◌∙◌}
+use Prim.Native.Nat.{ℕ, min}
+use mathlib.Core.Path.{◌≡◌, sym, ap, ◌∙◌}
+use mathlib.Core.List.{List}
 use native.Mathlib.Omega.{arith}
-use Rattle.parse_numbers.proofs.Puts.{put_none, put_some, put_all, count_is}
+use lib.ListN.{length, set}
+use Rattle.std.specs.Prelude.{Option}
+use Rattle.std.specs.Option.{unwrap_or}
+use Rattle.parse_numbers.proofs.Puts.{put_none, put_least, put_more, listed_within, byte_at, count_is}
 use Rattle.parse_numbers.proofs.unhex.Goals as goal
 
-pub returns-in_default : goal.returns-in_default
-returns-in_default c =
-    let e = sym c.bytes-count.ensures ∙ c.in_default.is in
-    record {
-      counted = sym e;
-      put = put_none _ _ e;
-    }
+pub returns-in_err-all-clause-put : goal.returns-in_err-all-clause-put
+returns-in_err-all-clause-put c = put_none _ _ (sym c.bytes.ensures ∙ c.in_err-all.was)
 
-pub decode-requires : goal.decode-requires
-decode-requires c =
-    let e = sym c.bytes-count.ensures ∙ c.in-Some.is in
-    (omega arith, omega (arith, count_is _ _ e))
+pub bounds-text-i : goal.bounds-text-i
+bounds-text-i c =
+    omega (arith, listed_within c.args.text.now, count_is _ _ (sym c.bytes.ensures ∙ c.in_ok-all.was), c.min-i-end.ensures)
 
-pub returns-then-room-n : goal.returns-then-room-n
-returns-then-room-n c =
-    let e = sym c.bytes-count.ensures
-    ∙ c.in-Some.is in
-    record {
-      counted = sym e;
-      put = c.decode.ensures ∙ put_some _ _ _ e c.if-room-n.true;
-    }
+pub bounds-text-i-in-loop-i : goal.bounds-text-i-in-loop-i
+bounds-text-i-in-loop-i c =
+    omega (arith, listed_within c.args.text.now, count_is _ _ (sym c.bytes.ensures ∙ c.in_ok-all.was), c.min-i-end.ensures)
 
-pub decode-requires-2 : goal.decode-requires-2
-decode-requires-2 c =
-    let e = sym c.bytes-count.ensures ∙ c.in-Some.is in
-    (omega arith, omega (arith, count_is _ _ e))
+pub loop-i-preserved : goal.loop-i-preserved
+loop-i-preserved c =
+    let n = count_is _ _ (sym c.bytes.ensures ∙ c.in_ok-all.was) in
+    ap (λ (l : List ℕ). set l c.loop-i.i c.unwrap_or.result) c.loop-i.invariant
+    ∙ put_more _ c.args.out.now c.loop-i.i c.unwrap_or.result (omega arith) (omega arith)
+    (c.unwrap_or.ensures ∙ ap (λ (o : Option ℕ). unwrap_or o 0) c.pair.ensures ∙ byte_at c.args.text.now c.loop-i.i (omega arith))
 
-pub returns : goal.returns
-returns c =
-    let e = sym c.bytes-count.ensures
-    ∙ c.in-Some.is in
-    record {
-      counted = sym e;
-      put = c.decode-2.ensures ∙ put_all _ _ _ e c.if-room-n.false;
-    }
+pub returns-clause-put : goal.returns-clause-put
+returns-clause-put c =
+    let m : c.loop-i.i ≡ min c.in_ok-all.all (length c.args.out.now) = omega arith in
+    c.loop-i.invariant ∙ put_least c.args.out.now _ _ _ (sym c.bytes.ensures ∙ c.in_ok-all.was) m

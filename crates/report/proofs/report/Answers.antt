@@ -4,7 +4,6 @@ use Rattle.text.specs.Told.{short}
 use Rattle.text.proofs.Told.{told_put, told_inside}
 use Rattle.report.specs.Answers.{text_most}
 use Rattle.report.proofs.Sizes.{text_most_holds}
-use borrow.Author.Rules.{rules}
 use Rattle.report.proofs.report.Goals as goal
 
 pub returns-then-buffer-lt-TEXT_MOST : goal.returns-then-buffer-lt-TEXT_MOST

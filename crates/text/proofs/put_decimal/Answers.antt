@@ -1,9 +1,9 @@
--- From the last digit to the first: with the digits of what is left put in front, the whole number is put. What is left is the measure.
--- Assumes nothing.
+-- From the last digit to the first: with the digits of what is left put in front, the whole number is put. Assumes nothing.
 use mathlib.Core.Path.{◌≡◌, refl, sym, ap, ◌∙◌}
 use mathlib.Core.List.{List}
 use Prim.Native.Nat.{ℕ, ◌+◌, ◌-◌, ◌/◌, ◌%◌, ◌≤◌, ◌<◌}
-use native.Mathlib.Nat.{div-lt_self, mod-lt}
+use native.Mathlib.Nat.{div-lt_self}
+use native.Mathlib.Decide.{dec_lt}
 use native.Mathlib.Omega.{arith}
 use lib.Dec.{lit<}
 use lib.ListN.{length, set, length-set}
@@ -15,93 +15,70 @@ use Rattle.text.proofs.Digits.{decimal_last, decimal_more, decimal_least, one_le
 use Rattle.text.proofs.put_decimal.Goals as goal
 use Rattle.text.proofs.put_decimal.Invariants.{SoFar}
 
--- the place of the first digit, and of each before the last
-front : {was out : List ℕ} {at n last left : ℕ} → SoFar was at n out last left → left < 10 → last ≡ at
-front {left = left} h g = let p = h.place in omega (arith, ap length (decimal_last left g))
+module _ {was out : List ℕ} {at n i left : ℕ} (h : SoFar was at n out i left) where
+  -- more than one digit is left where i has not come to the first ..
+  many : at + 1 < i → 10 ≤ left
+  many g = from (dec_lt left 10)
+    where
+      from : Dec (left < 10) → 10 ≤ left
+      from (yes l) = absurd (let p = h.place in let f : ⊥ = omega (arith, ap length (decimal_last left l)) in f)
+      from (no l) = omega arith
 
-behind : {was out : List ℕ} {at n last left : ℕ} → SoFar was at n out last left → 10 ≤ left → last ≡ at + length (decimal (left / 10))
-behind {left = left} h g = let p = h.place in omega (arith, one_less left h.narrow g)
+  -- .. and one where it has
+  one : i ≤ at + 1 → left < 10
+  one g = from (dec_lt left 10)
+    where
+      from : Dec (left < 10) → left < 10
+      from (yes l) = l
+      from (no l) =
+          absurd
+          (let p = h.place in
+          let f : ⊥ = omega (arith, one_less left h.narrow (omega arith), decimal_least (left / 10)) in f)
 
-body :
-    (was : List ℕ) (at n : ℕ) (out : List ℕ) (last left : ℕ) → SoFar was at n out last left → 10 ≤ left →
-    SoFar was at n (set out last (48 + left % 10)) (last - 1) (left / 10)
-body was at n out last left h g =
-    let b = behind h g in
-    let k : length (set out last (48 + left % 10)) ≡ length out = length-set out last (48 + left % 10) in
-    let i = h.inside in
-    let e = decimal_least (left / 10) in
-    record {
-      narrow = (let d = div-lt_self {n = left} {k = 10} (omega arith) (lit< tt) in let w = h.narrow in omega arith);
-      same = k ∙ h.same;
-      inside = omega arith;
-      place = omega arith;
-      so_far =
-          ap (λ (p : ℕ). over (set out p (48 + left % 10)) at (decimal (left / 10))) b
-          ∙ over_behind out at (decimal (left / 10)) (48 + left % 10) (omega arith)
-          ∙ ap (over out at) (sym (decimal_more left h.narrow g))
-          ∙ h.so_far;
-    }
+  body : at + 1 < i → SoFar was at n (set out (i - 1) (48 + left % 10)) (i - 1) (left / 10)
+  body g =
+      let m = many g in
+      let p = h.place in
+      let s = h.inside in
+      let w = h.narrow in
+      let b : i - 1 ≡ at + length (decimal (left / 10)) = omega (arith, one_less left w m) in
+      let k : length (set out (i - 1) (48 + left % 10)) ≡ length out = length-set out (i - 1) (48 + left % 10) in
+      let d = div-lt_self {n = left} {k = 10} (omega arith) (lit< tt) in
+      record {
+        narrow = omega arith;
+        same = k ∙ h.same;
+        inside = omega arith;
+        place = b;
+        so_far =
+            ap (λ (x : ℕ). over (set out x (48 + left % 10)) at (decimal (left / 10))) b
+            ∙ over_behind out at (decimal (left / 10)) (48 + left % 10) (omega arith)
+            ∙ ap (over out at) (sym (decimal_more left w m))
+            ∙ h.so_far;
+      }
 
-ended :
-    (was : List ℕ) (at n : ℕ) (out : List ℕ) (last left : ℕ) → SoFar was at n out last left → left < 10 →
-    set out last (48 + left) ≡ over was at (decimal n)
-ended was at n out last left h g =
-    let f = front h g in
-    let i = h.inside in
-    ap (λ (p : ℕ). set out p (48 + left)) f
-    ∙ one_over out at (48 + left) (omega arith)
-    ∙ ap (over out at) (sym (decimal_last left g))
-    ∙ h.so_far
+  inside : at < length out
+  inside = let p = h.place in let s = h.inside in omega (arith, decimal_least left)
 
-pub overflow_add-end : goal.overflow_add-end
-overflow_add-end c =
-    record { fits = (omega (arith, c.requires.digits_value)) }
+  ended : i ≤ at + 1 → set out at (48 + left) ≡ over was at (decimal n)
+  ended g =
+      one_over out at (48 + left) (let s = inside in omega arith)
+      ∙ ap (over out at) (sym (decimal_last left (one g)))
+      ∙ h.so_far
 
-pub overflow_sub-last : goal.overflow_sub-last
-overflow_sub-last c =
-    let e = decimal_least c.args.n in omega (arith, c.requires.digits_value)
+pub loop-i-init : goal.loop-i-init
+loop-i-init c = record { narrow = c.ranges.n.fits; same = refl; inside = omega arith; place = omega arith; so_far = refl }
 
-pub loop-left-init : goal.loop-left-init
-loop-left-init c =
-    let e = decimal_least c.args.n in
-    record { narrow = c.ranges.n.fits; same = refl; inside = omega arith; place = omega arith; so_far = refl }
-
-pub overflow_cast-out : goal.overflow_cast-out
-overflow_cast-out c =
-    record { fits = omega (arith, mod-lt c.loop-left.left {m = 10} (lit< tt)) }
-
-pub overflow_add-out : goal.overflow_add-out
-overflow_add-out c =
-    record { fits = omega (arith, mod-lt c.loop-left.left {m = 10} (lit< tt)) }
-
-pub bounds-out-last : goal.bounds-out-last
-bounds-out-last c =
-    c.loop-left.invariant.inside
-
-pub overflow_sub-last-in-loop-left : goal.overflow_sub-last-in-loop-left
-overflow_sub-last-in-loop-left c =
-    omega (arith, behind c.loop-left.invariant c.loop-left-test.true, decimal_least (c.loop-left.left / 10))
-
-pub loop-left-smaller : goal.loop-left-smaller
-loop-left-smaller c =
-    div-lt_self (omega arith) (lit< tt)
-
-pub loop-left-preserved : goal.loop-left-preserved
-loop-left-preserved c =
-    body _ _ _ _ _ _ c.loop-left.invariant (omega arith)
+pub loop-i-preserved : goal.loop-i-preserved
+loop-i-preserved c = body c.loop-i.invariant c.loop-i-test.true
 
 pub overflow_cast-out-2 : goal.overflow_cast-out-2
-overflow_cast-out-2 c =
-    record { fits = omega arith }
+overflow_cast-out-2 c = record { fits = omega (arith, one c.loop-i.invariant c.loop-i-test.false) }
 
 pub overflow_add-out-2 : goal.overflow_add-out-2
-overflow_add-out-2 c =
-    record { fits = omega arith }
+overflow_add-out-2 c = record { fits = omega (arith, one c.loop-i.invariant c.loop-i-test.false) }
 
-pub bounds-out-last-2 : goal.bounds-out-last-2
-bounds-out-last-2 c =
-    c.loop-left.invariant.inside
+pub bounds-out-at : goal.bounds-out-at
+bounds-out-at c = inside c.loop-i.invariant
 
 pub returns : goal.returns
-returns c =
-    record { bytes = ended _ _ _ _ _ _ c.loop-left.invariant (omega arith); upto = omega (arith, c.requires.digits_value) }
+returns c = record { bytes = ended c.loop-i.invariant c.loop-i-test.false; upto = omega (arith, c.requires.digits_value) }

@@ -7,7 +7,7 @@ use lib.ListN.{length, length-append}
 use Rattle.show.proofs.Checks.{tells_yes, tells_no}
 use Rattle.text.specs.Decimal.{decimal}
 use Rattle.text.specs.Puts.{FitsAt}
-use Rattle.text.proofs.Puts.{room_first, room_then, put_then, put_answers, no_room}
+use Rattle.text.proofs.Puts.{room_then, put_then, put_answers, no_room}
 use Rattle.text.proofs.put_numbered.Goals.{Else-not-fits, After-put_bytes-number}
 use Rattle.text.proofs.put_numbered.Goals as goal
 
@@ -30,23 +30,6 @@ returns-then-not-fits c =
     let f = tells_no _ c.fits.result c.if-not-fits.true c.fits.ensures in
     let pair = no_room _ _ _ (λ h. f (omega (arith, h, three_length c.args.before.now (decimal c.args.n) c.args.after.now))) in
     record { out_after = pair.0; value = pair.1 }
-
-pub put_bytes-number-requires : goal.put_bytes-number-requires
-put_bytes-number-requires c =
-    room_first _ _ (room (goal.at.put_bytes-number-requires c).Else-not-fits)
-
-pub put_decimal-end-requires : goal.put_decimal-end-requires
-put_decimal-end-requires c =
-    let at = goal.at.put_decimal-end-requires c in
-    record {
-      fits_at = room_first _ _ (room_number at.After-put_bytes-number (room at.Else-not-fits));
-      digits_value = c.width-digits.ensures;
-    }
-
-pub put_bytes-requires : goal.put_bytes-requires
-put_bytes-requires c =
-    let at = goal.at.put_bytes-requires c in
-    room_then _ _ (room_number at.After-put_bytes-number (room at.Else-not-fits)) c.put_decimal-end.ensures c.put_decimal-end.auto.out
 
 pub returns : goal.returns
 returns c =

@@ -1,7 +1,7 @@
 -- No room for the first number and the words around it, none for the second behind it, or both. Assumes nothing.
 use mathlib.Core.Path.{◌≡◌}
 use mathlib.Core.List.{List}
-use Prim.Native.Nat.{ℕ, ◌+◌, ◌≤◌}
+use Prim.Native.Nat.{ℕ, ◌+◌}
 use native.Mathlib.Omega.{arith}
 use lib.ListN.{length, length-append}
 use Rattle.show.proofs.Checks.{tells_yes, tells_no}
@@ -19,27 +19,12 @@ paired_length :
     ≡ length before + (length (decimal a) + length between) + (length (decimal b) + length end)
 paired_length before a between b end = simp length-append (omega arith)
 
-half : (c : Else-not-fits) → c.args.at + (length c.args.before.now + (c.width-digits.result + length c.args.between.now)) ≤ length c.args.out.now
-half c = tells_yes _ c.fits.result c.if-not-fits.false c.fits.ensures
-
 pub returns-then-not-fits : goal.returns-then-not-fits
 returns-then-not-fits c =
     let f = tells_no _ c.fits.result c.if-not-fits.true c.fits.ensures in
     let pair = no_room _ _ _
     (λ h. f (omega (arith, h, paired_length c.args.before.now c.args.a c.args.between.now c.args.b c.args.after.now))) in
     record { out_after = pair.0; value = pair.1 }
-
-pub overflow_add-half : goal.overflow_add-half
-overflow_add-half c =
-    let h = half c in record { fits = omega arith }
-
-pub overflow_add-half-2 : goal.overflow_add-half-2
-overflow_add-half-2 c =
-    let h = half c in record { fits = omega arith }
-
-pub overflow_add-half-3 : goal.overflow_add-half-3
-overflow_add-half-3 c =
-    let h = half c in record { fits = omega arith }
 
 pub returns-then-not-fits-2 : goal.returns-then-not-fits-2
 returns-then-not-fits-2 c =

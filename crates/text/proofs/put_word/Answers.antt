@@ -9,11 +9,6 @@ returns-then-not-fits c =
     let f = tells_no _ c.fits.result c.if-not-fits.true c.fits.ensures in
     let pair = no_room _ _ _ (λ h. f (omega (arith, h))) in record { out_after = pair.0; value = pair.1 }
 
-pub put_bytes-requires : goal.put_bytes-requires
-put_bytes-requires c =
-    let f = tells_yes _ c.fits.result c.if-not-fits.false c.fits.ensures in
-    record { fits = omega arith }
-
 pub returns : goal.returns
 returns c =
     let f = tells_yes _ c.fits.result c.if-not-fits.false

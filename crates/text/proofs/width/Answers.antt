@@ -1,56 +1,29 @@
--- Four digits a turn: with those that are left, all are counted. The measure is what is left of the number. Assumes nothing.
-use mathlib.Core.Path.{◌≡◌, ap, ◌∙◌}
-use Prim.Native.Nat.{ℕ, ◌+◌, ◌/◌, ◌^◌, ◌≤◌, ◌<◌}
-use native.Mathlib.Nat.{div-lt_self, div-div-eq-div-mul}
+-- As many digits as the powers of ten say. Assumes nothing.
+use mathlib.Core.Path.{◌≡◌, ap}
+use Prim.Native.Nat.{ℕ, zero, suc, ◌+◌, ◌*◌, ◌/◌, ◌^◌, ◌≤◌, ◌<◌, max}
+use native.Mathlib.Nat.{pow-suc, pow-succ', le-div_iff_mul-le, one-le-pow}
+use native.Mathlib.Decide.{dec_lt}
 use native.Mathlib.Omega.{arith}
 use lib.Dec.{lit<}
 use lib.ListN.{length}
 use Rattle.text.specs.Decimal.{decimal}
-use Rattle.text.proofs.Digits.{decimal_most, one_less}
+use Rattle.text.proofs.Digits.{decimal_few, decimal_last, decimal_least, one_less}
 use Rattle.text.proofs.width.Goals as goal
-use Rattle.text.proofs.width.Invariants.{SoFar}
 
-four_less : (n : ℕ) → n < 2 ^ 64 → 10000 ≤ n → length (decimal n) ≡ length (decimal (n / 10000)) + 4
-four_less n b h =
-    let e : n / 10 / 10 / 10 / 10 ≡ n / 10000 =
-    div-div-eq-div-mul (n / 10 / 10) 10 10 ∙ div-div-eq-div-mul (n / 10) 10 100 ∙ div-div-eq-div-mul n 10 1000 in
-    let first = one_less n b (omega arith) in
-    let second = one_less (n / 10) (omega arith) (omega arith) in
-    let third = one_less (n / 10 / 10) (omega arith) (omega arith) in
-    let fourth = one_less (n / 10 / 10 / 10) (omega arith) (omega arith) in
-    omega (arith, ap (λ (k : ℕ). length (decimal k)) e)
+decimal_many : (k n : ℕ) → n < 2 ^ 64 → 10 ^ k ≤ n → suc k ≤ length (decimal n)
+decimal_many zero n b h = omega (arith, decimal_least n)
+decimal_many (suc k) n b h =
+    let p : 10 ^ k * 10 ≤ n = rw (← pow-suc 10 k) h in
+    let i = decimal_many k (n / 10) (omega arith) ((le-div_iff_mul-le (lit< tt)).1 p) in
+    omega (arith, one_less n b (omega (arith, one-le-pow k 10 (lit< tt))))
 
-body : (n left digits : ℕ) → SoFar n left digits → 10000 ≤ left → SoFar n (left / 10000) (digits + 4)
-body n left digits h g =
-    let e = four_less left h.narrow g in
-    let s = h.so_far in
-    let b = h.narrow in
-    record { narrow = (let d = div-lt_self {n = left} {k = 10000} (omega arith) (lit< tt) in omega arith); so_far = omega arith }
-
-pub loop-left-init : goal.loop-left-init
-loop-left-init c =
-    record { narrow = c.ranges.n.fits; so_far = omega arith }
-
-pub overflow_add-digits : goal.overflow_add-digits
-overflow_add-digits c =
-    record { fits = (omega (arith, decimal_most c.args.n)) }
-
-pub loop-left-smaller : goal.loop-left-smaller
-loop-left-smaller c =
-    div-lt_self (omega arith) (lit< tt)
-
-pub loop-left-preserved : goal.loop-left-preserved
-loop-left-preserved c =
-    body _ _ _ c.loop-left.invariant (omega arith)
-
-pub short_width-requires : goal.short_width-requires
-short_width-requires c =
-    omega arith
-
-pub overflow_add-result : goal.overflow_add-result
-overflow_add-result c =
-    record { fits = (omega (arith, c.short_width.ensures, decimal_most c.args.n)) }
+width_is : (n m k : ℕ) → m ≡ max n 1 → m < 2 ^ 64 → 10 ^ k ≤ m → m < 10 * 10 ^ k → k + 1 ≡ length (decimal n)
+width_is n m k e b h g =
+    omega (arith, decimal_many k m b h, decimal_few k m (rw (pow-succ' 10 k) g), same (dec_lt 0 n))
+  where
+    same : Dec (0 < n) → length (decimal m) ≡ length (decimal n)
+    same (yes l) = let i : m ≡ n = omega arith in ap (λ (x : ℕ). length (decimal x)) i
+    same (no l) = omega (arith, ap length (decimal_last m (omega arith)), ap length (decimal_last n (omega arith)))
 
 pub returns : goal.returns
-returns c =
-    omega (arith, c.short_width.ensures)
+returns c = width_is c.args.n c.max.result c.ilog10.result c.max.ensures c.max.type_inv c.ilog10.ensures.power_le c.ilog10.ensures.next_power_gt

@@ -1,12 +1,8 @@
--- One byte of the form a turn: what was put so far is the text of those before it. The measure is what is left of the form. Assumes nothing.
-use Prim.Native.Nat.{◌-◌}
-use lib.ListN.{length}
-use Rattle.text.proofs.Puts.{PutTo}
-use Rattle.text_forms.proofs.Forms.{Used, so_far}
+-- One byte of the form a turn: with the text of those that are left, the whole is put. Assumes nothing.
+use lib.ListN.{drop}
+use Rattle.text.proofs.Puts.{Rest}
+use Rattle.text_forms.specs.Forms.{form_text}
 use Rattle.text_forms.proofs.put_pieces.Given as goal
 
-abbrev pub invariant-loop-i : goal.invariant-loop-i
-invariant-loop-i l = Used l.form l.used l.i × PutTo l.initial.out l.at (so_far l.form l.numbers) (length l.form) l.out l.i l.next
-
-abbrev pub decreases-loop-i : goal.decreases-loop-i
-decreases-loop-i l = length l.form - l.i
+abbrev pub invariant-loop-b : goal.invariant-loop-b
+invariant-loop-b l = Rest l.fn.out l.at (form_text l.form l.numbers) l.out l.next (form_text (drop l.b-index l.form) l.left)

@@ -1,12 +1,8 @@
--- One byte a turn: what was put so far is the text of those before it. The measure is what is left of the bytes. Assumes nothing.
-use Prim.Native.Nat.{◌-◌}
-use lib.ListN.{length}
-use Rattle.text.proofs.Puts.{PutTo}
-use Rattle.text_forms.proofs.Pairs.{so_far}
+-- One byte a turn: with the text of those that are left, the whole is put. Assumes nothing.
+use lib.ListN.{drop}
+use Rattle.text.proofs.Puts.{Rest}
+use Rattle.text_forms.specs.Hex.{pairs_text}
 use Rattle.text_forms.proofs.hex.put_pairs.Given as goal
 
-abbrev pub invariant-loop-i : goal.invariant-loop-i
-invariant-loop-i l = PutTo l.initial.out l.at (so_far l.bytes) (length l.bytes) l.out l.i l.next
-
-abbrev pub decreases-loop-i : goal.decreases-loop-i
-decreases-loop-i l = length l.bytes - l.i
+abbrev pub invariant-loop-b : goal.invariant-loop-b
+invariant-loop-b l = Rest l.fn.out l.at (pairs_text l.bytes) l.out l.next (pairs_text (drop l.b-index l.bytes))
