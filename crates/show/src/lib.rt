@@ -211,19 +211,15 @@ impl Show {
         if !self.drive.within() {
             return Err(Refusal::DriveLimits);
         }
-        let mut i = 0;
-        while i < self.laid {
-            if !self.layouts[i].within() {
+        for (i, layout) in self.layouts[..self.laid].iter().enumerate() {
+            if !layout.within() {
                 return Err(Refusal::LayoutLimits(i));
             }
-            i += 1;
         }
-        let mut k = 0;
-        while k < self.playing {
-            if !self.sessions[k].within(self.laid) {
+        for (k, session) in self.sessions[..self.playing].iter().enumerate() {
+            if !session.within(self.laid) {
                 return Err(Refusal::SessionLimits(k));
             }
-            k += 1;
         }
         Ok(())
     }
