@@ -29,9 +29,9 @@ pub fn test_run(run: Run) -> Test
     let counts = run.counts;
     let trial = tried(show, counts);
     let answer = trial.answer;
-    let Ok(true) = answer else {
+    if !answer.unwrap_or(false) {
         return Test::Damaged;
-    };
+    }
     let mut i: usize = 0;
     while i < show.playing {
         if !run.states[i].within(show.sessions[i], run.started) {
@@ -127,7 +127,13 @@ fn turns(order: [u32; 16], counts: [u32; 16], playing: usize, place: usize, left
 }
 
 // Whether a read that is under way is one of the session at the place, and may be.
-fn may_read(underway: Option<usize>, seat: usize, state: State, session: Session, block: u32) -> bool
+fn may_read(
+    underway: Option<usize>,
+    seat: usize,
+    state: State,
+    session: Session,
+    block: u32,
+) -> bool
     ensures { Tells result (UnderwayAt underway seat state session block) }
 {
     let Some(read) = underway else {
