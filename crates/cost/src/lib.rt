@@ -9,9 +9,9 @@ ghost use Rattle.cost.specs.Bound.{Limited};
 ghost use Rattle.cost.specs.Costs.{read_cost};
 ghost use Rattle.cost.specs.WorstTimes.{takes_of};
 
-use crate::worst::{cylinder_within, time_of};
-use show::Layout;
+use crate::worst::time_of;
 use show::refusal::Refusal;
+use show::{Drive, Layout};
 
 // What an operation costs, in µs: once, for each block, for each cylinder edge.
 #[derive(Clone, Copy)]
@@ -42,23 +42,16 @@ impl Cost {
     fn limited(self) -> bool
         ensures { Tells result (Limited self) }
     {
-        if Cost::FIXED_MOST < self.fixed {
-            return false;
-        }
-        if Cost::EACH_MOST < self.each {
-            return false;
-        }
-        if Cost::CROSS_MOST < self.cross {
-            return false;
-        }
-        true
+        self.fixed <= Cost::FIXED_MOST
+            && self.each <= Cost::EACH_MOST
+            && self.cross <= Cost::CROSS_MOST
     }
 
     // U(n) on cylinders of so many blocks: 5 where these are outside their limit, then 6 where the cost is past its limits.
     pub fn takes(self, cylinder: u32, n: u32) -> Result<u64, Refusal>
         ensures { result ≡ takes_of self cylinder n }
     {
-        if !cylinder_within(cylinder) {
+        if !(Drive::CYLINDER_LEAST..=Drive::CYLINDER_MOST).contains(&cylinder) {
             return Err(Refusal::DriveLimits);
         }
         if !self.limited() {

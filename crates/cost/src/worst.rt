@@ -1,32 +1,18 @@
 // U, the longest that an operation can take: docs/RULES.md, section 3. It is worked out here and nowhere else.
 ghost use Rattle.std.specs.Prelude.{◌≡◌, ◌≤◌};
-ghost use Rattle.show.specs.Limits.{Tells, Between};
 ghost use Rattle.cost.specs.Bound.{Limited, edges, worst_time};
 ghost use Rattle.cost.specs.WorstTimes.{worst_of};
 
 use crate::Cost;
+use show::Show;
 use show::refusal::Refusal;
-use show::{Drive, Show};
-
-pub(crate) fn cylinder_within(cylinder: u32) -> bool
-    ensures { Tells result (Between 1 cylinder 65536) }
-{
-    if cylinder < Drive::CYLINDER_LEAST {
-        return false;
-    }
-    if Drive::CYLINDER_MOST < cylinder {
-        return false;
-    }
-    true
-}
 
 // The cylinder edges that n blocks cross at most.
 fn edges(cylinder: u32, n: u32) -> u64
     requires { 1 ≤ cylinder }
     ensures { result ≡ edges cylinder n }
 {
-    let per = cylinder as u64;
-    (n as u64 + per - 1) / per
+    (n as u64).div_ceil(cylinder as u64)
 }
 
 // U(n) of a cost within its limits, which fits 64 bits for every count.
@@ -43,10 +29,7 @@ pub(crate) fn time_of(cost: Cost, cylinder: u32, n: u32) -> u64
 pub fn worst_time(show: Show, i: usize, n: u32) -> Result<u64, Refusal>
     ensures { result ≡ worst_of show i n }
 {
-    let check = show.check();
-    if let Err(why) = check {
-        return Err(why);
-    }
+    show.check()?;
     if show.playing <= i {
         return Err(Refusal::NoSession);
     }

@@ -5,37 +5,17 @@ mod span;
 
 ghost use Rattle.std.specs.Prelude.{◌≡◌};
 ghost use Rattle.show.specs.Limits.{Tells};
-ghost use Rattle.count.specs.Answers.{BlockWithin, RateWithin, Buffered, need_of};
+ghost use Rattle.count.specs.Answers.{BlockWithin, Buffered, need_of};
 
 use crate::span::{ahead, split};
 use show::refusal::Refusal;
 use show::{Drive, Session};
 
+// The drive's limits of a block, without a drive: what tests a block alone would be one more public function of show.
 fn block_within(block: u32) -> bool
     ensures { Tells result (BlockWithin block) }
 {
-    if block < Drive::BLOCK_LEAST {
-        return false;
-    }
-    if Drive::BLOCK_MOST < block {
-        return false;
-    }
-    if block % Drive::BLOCK_STEP != 0 {
-        return false;
-    }
-    true
-}
-
-fn rate_within(rate: u32) -> bool
-    ensures { Tells result (RateWithin rate) }
-{
-    if rate < Session::RATE_LEAST {
-        return false;
-    }
-    if Session::RATE_MOST < rate {
-        return false;
-    }
-    true
+    (Drive::BLOCK_LEAST..=Drive::BLOCK_MOST).contains(&block) && block % Drive::BLOCK_STEP == 0
 }
 
 // The least count of blocks that is ahead of the rate over t µs: 5 where the block is outside its limits, then 7 where the rate is.
@@ -45,7 +25,7 @@ pub fn need(rate: u32, block: u32, t: u64) -> Result<u64, Refusal>
     if !block_within(block) {
         return Err(Refusal::DriveLimits);
     }
-    if !rate_within(rate) {
+    if !(Session::RATE_LEAST..=Session::RATE_MOST).contains(&rate) {
         return Err(Refusal::SessionLimits(0));
     }
     let span = split(block, t);
@@ -58,8 +38,5 @@ pub fn fits(session: Session, block: u32, count: u32) -> bool
 {
     let blocks = (count as u64 + 1) * (block as u64);
     let needed = blocks + session.cushion as u64;
-    if (session.buffer as u64) < needed {
-        return false;
-    }
-    true
+    needed <= session.buffer as u64
 }

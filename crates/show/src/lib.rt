@@ -58,22 +58,9 @@ impl Drive {
     pub fn within(self) -> bool
         ensures { Tells result (DriveWithin self) }
     {
-        if self.block < Drive::BLOCK_LEAST {
-            return false;
-        }
-        if Drive::BLOCK_MOST < self.block {
-            return false;
-        }
-        if self.block % Drive::BLOCK_STEP != 0 {
-            return false;
-        }
-        if self.cylinder < Drive::CYLINDER_LEAST {
-            return false;
-        }
-        if Drive::CYLINDER_MOST < self.cylinder {
-            return false;
-        }
-        true
+        (Drive::BLOCK_LEAST..=Drive::BLOCK_MOST).contains(&self.block)
+            && self.block % Drive::BLOCK_STEP == 0
+            && (Drive::CYLINDER_LEAST..=Drive::CYLINDER_MOST).contains(&self.cylinder)
     }
 }
 
@@ -89,22 +76,10 @@ impl Layout {
     pub fn within(self) -> bool
         ensures { Tells result (LayoutWithin self) }
     {
-        if Layout::LONGEST_MOST < self.longest {
-            return false;
-        }
-        if self.longest < self.track {
-            return false;
-        }
-        if self.time < Layout::TIME_LEAST {
-            return false;
-        }
-        if Layout::TIME_MOST < self.time {
-            return false;
-        }
-        if Layout::ROTATION_MOST < self.rotation {
-            return false;
-        }
-        true
+        self.longest <= Layout::LONGEST_MOST
+            && self.track <= self.longest
+            && (Layout::TIME_LEAST..=Layout::TIME_MOST).contains(&self.time)
+            && self.rotation <= Layout::ROTATION_MOST
     }
 }
 
@@ -125,28 +100,10 @@ impl Session {
     pub fn within(self, laid: usize) -> bool
         ensures { Tells result (SessionWithin laid self) }
     {
-        if self.rate < Session::RATE_LEAST {
-            return false;
-        }
-        if Session::RATE_MOST < self.rate {
-            return false;
-        }
-        if self.cushion < Session::CUSHION_LEAST {
-            return false;
-        }
-        if Session::CUSHION_MOST < self.cushion {
-            return false;
-        }
-        if self.buffer < Session::BUFFER_LEAST {
-            return false;
-        }
-        if Session::BUFFER_MOST < self.buffer {
-            return false;
-        }
-        if laid <= self.layout as usize {
-            return false;
-        }
-        true
+        (Session::RATE_LEAST..=Session::RATE_MOST).contains(&self.rate)
+            && (Session::CUSHION_LEAST..=Session::CUSHION_MOST).contains(&self.cushion)
+            && (Session::BUFFER_LEAST..=Session::BUFFER_MOST).contains(&self.buffer)
+            && (self.layout as usize) < laid
     }
 }
 
@@ -189,16 +146,7 @@ impl Show {
     pub fn counts_within(laid: usize, playing: usize) -> bool
         ensures { Tells result (CountsWithin laid playing) }
     {
-        if laid < Show::LAID_LEAST {
-            return false;
-        }
-        if Show::LAID_MOST < laid {
-            return false;
-        }
-        if Show::PLAYING_MOST < playing {
-            return false;
-        }
-        true
+        (Show::LAID_LEAST..=Show::LAID_MOST).contains(&laid) && playing <= Show::PLAYING_MOST
     }
 
     // The tests of refusals 2, 5, 6 and 7, in this order. Both loops stand here so that neither copies the show.
@@ -211,19 +159,15 @@ impl Show {
         if !self.drive.within() {
             return Err(Refusal::DriveLimits);
         }
-        let mut i = 0;
-        while i < self.laid {
-            if !self.layouts[i].within() {
+        for (i, layout) in self.layouts[..self.laid].iter().enumerate() {
+            if !layout.within() {
                 return Err(Refusal::LayoutLimits(i));
             }
-            i += 1;
         }
-        let mut k = 0;
-        while k < self.playing {
-            if !self.sessions[k].within(self.laid) {
+        for (k, session) in self.sessions[..self.playing].iter().enumerate() {
+            if !session.within(self.laid) {
                 return Err(Refusal::SessionLimits(k));
             }
-            k += 1;
         }
         Ok(())
     }

@@ -1,5 +1,5 @@
 -- The end of the search: the first time over which some count no longer fits its buffer. Assumes nothing.
-use Prim.Native.Nat.{ℕ, ◌+◌, ◌*◌, ◌/◌, ◌-◌, ◌≤◌, ◌<◌}
+use Prim.Native.Nat.{ℕ, ◌+◌, ◌*◌, ◌/◌, ◌-◌, ◌≤◌, ◌<◌, min}
 use mathlib.Core.Path.{◌≡◌}
 use mathlib.Core.Logic.{◌↔◌}
 use native.Mathlib.Omega.{arith}
@@ -67,12 +67,9 @@ module _ (A : ℕ) (x : Session) (h : Lasting A x) where
     λ p. absurd (let r = p.1 in let f : ⊥ = omega (arith, add-mul (need x.rate (A * 1000000) t) 1 A, one-mul A) in f),
   )
 
-  module _ (e : ℕ) (fits : x.cushion + A ≤ x.buffer) where
-    pub sooner_last : last < e → SoonerIs A x e last
-    sooner_last l t = (λ b. (omega arith, last_room t fits b), λ p. room_last t p.1)
-
-    pub sooner_end : e ≤ last → SoonerIs A x e e
-    sooner_end l t = (λ b. (b, last_room t fits (omega arith)), λ p. p.0)
+  pub sooner_least : (e : ℕ) → x.cushion + A ≤ x.buffer → SoonerIs A x e (min last e)
+  sooner_least e fits t =
+      (λ b. (omega arith, last_room t fits (omega arith)), λ p. (let l = room_last t p.1 in let m = p.0 in omega arith))
 
 -- The end so far: the times below it are those over which the counts of the first i sessions fit.
 pub record EndTo (s : Show) (end i : ℕ) : Type 0 where

@@ -183,12 +183,8 @@ module _
                   (lt_of_le_of_lt (mul-le-mul_left (rates_of s i) h.since) (work_below s w i t)));
             }
 
--- At a turn's beginning nothing is passed, and at the end of one that left t as it was the search is over.
+-- At the end of a turn that left t as it was the search is over.
 module _ (s : Show) (w : ShowWithin s) (end : ℕ) (covered times : List ℕ) (t : ℕ) where
-  pub turn_begun : Search s end covered times t → TurnTo s end t covered times t 0
-  turn_begun h =
-      record { inside = omega arith; since = le_refl t; search = h; passed = λ k l. absurd (let f : ⊥ = omega arith in f) }
-
   pub settled :
       (before i : ℕ) → TurnTo s end before covered times t i → EndIs s end → s.playing ≤ i → t ≤ before → Settled s t
   settled before i h e l g =

@@ -16,12 +16,7 @@ pub(crate) fn takes(layout: Layout, cylinder: u32, n: u32) -> u64
     requires { LayoutWithin layout × Between 1 cylinder 65536 }
     ensures { (result ≡ worst_time cylinder (read_cost layout) n) × (result ≤ time_most) }
 {
-    let cost = Cost::of_read(layout);
-    let worst = cost.takes(cylinder, n);
-    let Ok(t) = worst else {
-        return 0;
-    };
-    t
+    Cost::of_read(layout).takes(cylinder, n).unwrap_or(0)
 }
 
 // The least count that is ahead of a rate over t.
@@ -29,9 +24,5 @@ pub(crate) fn asks(rate: u32, block: u32, t: u64) -> u64
     requires { BlockWithin block × RateWithin rate }
     ensures { result ≡ need rate (block * 1000000) t }
 {
-    let asked = need(rate, block, t);
-    let Ok(m) = asked else {
-        return 0;
-    };
-    m
+    need(rate, block, t).unwrap_or(0)
 }

@@ -29,29 +29,26 @@ pub struct Decision {
 pub fn decide(show: Show) -> Decision
     ensures { DecisionIs show result }
 {
-    let check = show.check();
-    if let Err(why) = check {
+    if let Err(why) = show.check() {
         return refused(why);
     }
-    let settled = settle(show);
-    let Some(t) = settled else {
+    let Some(t) = settle(&show) else {
         return refused(Refusal::NoSet);
     };
-    accepted(show, t)
+    accepted(&show, t)
 }
 
 // What a round of t µs asks for, and how long that takes.
-fn accepted(show: Show, t: u64) -> Decision
-    requires show_within { ShowWithin show }
-    requires settled { Settled show t }
-    ensures { result ≡ accepted_with (load_of show) (asked (load_of show) t) }
+fn accepted(show: &Show, t: u64) -> Decision
+    requires show_within { ShowWithin show.now }
+    requires settled { Settled show.now t }
+    ensures { result ≡ accepted_with (load_of show.now) (asked (load_of show.now) t) }
 {
     let drive = show.drive;
     let mut round: u64 = 0;
     let mut counts: [u32; 16] = [0; 16];
     let mut times: [u64; 16] = [0; 16];
-    let mut i: usize = 0;
-    while i < show.playing {
+    for i in 0..show.playing {
         let session = show.sessions[i];
         let at = session.layout as usize;
         let count = asks(session.rate, drive.block, t);
@@ -59,7 +56,6 @@ fn accepted(show: Show, t: u64) -> Decision
         counts[i] = count as u32;
         times[i] = time;
         round += time;
-        i += 1;
     }
     Decision {
         verdict: Ok(()),

@@ -24,47 +24,40 @@ fn sooner(block: u32, session: Session, end: u64) -> u64
     let rate = session.rate as u64;
     let most = (buffer - taken) / (block as u64);
     let last = (most * (block as u64 * 1_000_000) + rate - 1) / rate;
-    if last < end {
-        return last;
-    }
-    end
+    last.min(end)
 }
 
 // The first time over which some count no longer fits its buffer.
-fn end_of(show: Show) -> u64
-    requires { ShowWithin show }
-    ensures { EndIs show result }
+fn end_of(show: &Show) -> u64
+    requires { ShowWithin show.now }
+    ensures { EndIs show.now result }
 {
     let block = show.drive.block;
     let mut end = END_MOST;
-    let mut i: usize = 0;
-    while i < show.playing {
+    // By index: of a slice of an array in a show that is lent, the proofs don't know the length.
+    for i in 0..show.playing {
         end = sooner(block, show.sessions[i], end);
-        i += 1;
     }
     end
 }
 
 // Each session's rate: in the search they lie side by side.
-fn rates_of(show: Show) -> [u64; 16]
-    requires { ShowWithin show }
-    ensures { result ≡ row (load_of show) (rates_of show) }
+fn rates_of(show: &Show) -> [u64; 16]
+    requires { ShowWithin show.now }
+    ensures { result ≡ row (load_of show.now) (rates_of show.now) }
 {
     let mut rates: [u64; 16] = [0; 16];
-    let mut i: usize = 0;
-    while i < show.playing {
-        let session = show.sessions[i];
-        rates[i] = session.rate as u64;
-        i += 1;
+    for i in 0..show.playing {
+        rates[i] = show.sessions[i].rate as u64;
     }
     rates
 }
 
 // The time t at which the counts that t asks for take no longer than t; none, once a count does not fit. A count that is still
 // ahead stays, and a longer time counts at once for the sessions after it. Both loops stand here so that no turn copies the show.
-pub(crate) fn settle(show: Show) -> Option<u64>
-    requires { ShowWithin show }
-    ensures { SettledAs show result }
+pub(crate) fn settle(show: &Show) -> Option<u64>
+    requires { ShowWithin show.now }
+    ensures { SettledAs show.now result }
 {
     let drive = show.drive;
     let unit = drive.block as u64 * 1_000_000;
@@ -78,8 +71,7 @@ pub(crate) fn settle(show: Show) -> Option<u64>
     let mut t: u64 = 0;
     loop {
         let before = t;
-        let mut i: usize = 0;
-        while i < show.playing {
+        for i in 0..show.playing {
             let work = rates[i] * t;
             if covered[i] <= work {
                 let count = work / unit + 1;
@@ -93,7 +85,6 @@ pub(crate) fn settle(show: Show) -> Option<u64>
                 covered[i] = count * unit;
                 times[i] = time;
             }
-            i += 1;
         }
         if t <= before {
             return Some(t);

@@ -1,6 +1,5 @@
 -- `accepted` answers what a settled time asks for, with the times. Invariant: the counts and the times of the first i sessions stand
--- there. What falls: playing - i. Assumes nothing.
-use Prim.Native.Nat.{◌-◌}
+-- there. Assumes nothing.
 use Rattle.theory.specs.Rounds.{asked}
 use Rattle.theory.specs.Shows.{load_of}
 use Rattle.verdict.proofs.Sets.{Filled, TimedTo}
@@ -9,6 +8,3 @@ use Rattle.verdict.proofs.accepted.Given as goal
 abbrev pub invariant-loop-i : goal.invariant-loop-i
 invariant-loop-i l = (Filled l.show (asked (load_of l.show) l.t) l.counts l.i)
     × (TimedTo l.show (λ k. ((load_of l.show).stream k).time (asked (load_of l.show) l.t k)) l.round l.times l.i)
-
-abbrev pub decreases-loop-i : goal.decreases-loop-i
-decreases-loop-i l = l.show.playing - l.i

@@ -5,41 +5,33 @@ use Rattle.show.proofs.Shows.{check_within}
 use Rattle.theory.proofs.Rounds.{least_smallest}
 use Rattle.theory.proofs.Shows.{show_sound}
 use Rattle.verdict.specs.Answers.{DecisionIs, accepted, no_set, outside}
-use Rattle.verdict.specs.Steps.{Settled, SettledAs}
+use Rattle.verdict.specs.Steps.{Settled}
 use Rattle.verdict.proofs.decide.Goals as goal
 use Rattle.verdict.proofs.decide.Goals.{In_default}
 
 -- The show is within its limits once 2, 5, 6 and 7 are past.
 within : (c : In_default) → ShowWithin c.args.show
-within c = check_within _ (sym c.check-check.ensures ∙ c.in_default.is)
+within c = check_within _ (sym c.check.ensures ∙ c.in_default.is)
 
 pub returns-in-Err : goal.returns-in-Err
 returns-in-Err c =
-    subst (DecisionIs _) (sym c.refused.ensures) (outside _ (sym c.check-check.ensures ∙ c.in-Err.is))
+    subst (DecisionIs _) (sym c.refused.ensures) (outside _ (sym c.check.ensures ∙ c.in-Err.is))
 
-pub settle-settled-requires : goal.settle-settled-requires
-settle-settled-requires c =
-    within (goal.at.settle-settled-requires c).In_default
+pub settle-requires : goal.settle-requires
+settle-requires c =
+    within (goal.at.settle-requires c).In_default
 
-pub returns-in_default-settled : goal.returns-in_default-settled
-returns-in_default-settled c =
-    let w = within (goal.at.returns-in_default-settled c).In_default in
-    subst (DecisionIs _) (sym c.refused-in_default-settled.ensures)
-    (no_set w (subst (SettledAs _) c.in_default-settled.is c.settle-settled.ensures))
+pub returns-in_default-settle : goal.returns-in_default-settle
+returns-in_default-settle c =
+    subst (DecisionIs _) (sym c.refused-in_default-settle.ensures)
+    (no_set (within (goal.at.returns-in_default-settle c).In_default) c.in_default-settle.ensures)
 
-pub accepted-requires : goal.accepted-requires
-accepted-requires c =
-    let w = within (goal.at.accepted-requires c).In_default in
-    let settled_at : Settled c.args.show c.in-Some.t = subst (SettledAs _) c.in-Some.is c.settle-settled.ensures in
-    record {
-      show_within = w;
-      settled = settled_at;
-    }
+pub accepted-requires-clause-show_within : goal.accepted-requires-clause-show_within
+accepted-requires-clause-show_within c =
+    within (goal.at.accepted-requires-clause-show_within c).In_default
 
 pub returns : goal.returns
 returns c =
     let w = within (goal.at.returns c).In_default in
-    let settled_at : Settled c.args.show c.in-Some.t = subst (SettledAs _) c.in-Some.is c.settle-settled.ensures in
-    let h = settled_at in
-    subst (DecisionIs _) (sym c.accepted.ensures)
-    (accepted _ w (least_smallest _ (show_sound _ w) _ h.least h.fits))
+    let h : Settled c.args.show c.in-Some.t = c.in-Some.ensures in
+    subst (DecisionIs _) (sym c.accepted.ensures) (accepted _ w (least_smallest _ (show_sound _ w) _ h.least h.fits))

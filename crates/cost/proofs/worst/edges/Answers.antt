@@ -1,9 +1,10 @@
 -- `edges` answers n/N rounded up. Assumes nothing.
-use mathlib.Core.Path.{refl}
-use Rattle.cost.specs.Bound.{ceil, edges}
+use mathlib.Core.Path.{◌∙◌}
+use Rattle.cost.proofs.Ceil.{ceil_same}
+use Rattle.cost.specs.Bound.{edges}
 use Rattle.cost.proofs.worst.edges.Goals as goal
 
 pub returns : goal.returns
-unfolding edges ceil
+unfolding edges
 returns c =
-    refl
+    c.div_ceil.ensures ∙ ceil_same _ c.requires _

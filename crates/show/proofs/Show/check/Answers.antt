@@ -1,7 +1,10 @@
--- `check` answers the first refusal of 2, 5, 6 and 7. Invariants: no layout below i is refused, no session below k; what falls: laid - i,
--- playing - k. Assumes nothing.
+-- `check` answers the first refusal of 2, 5, 6 and 7. Invariants: no layout below i is refused, no session below k. Assumes nothing.
+use Prim.Native.Nat.{◌<◌}
 use mathlib.Core.Path.{◌≡◌, sym, ◌∙◌}
 use native.Mathlib.Omega.{arith}
+use lib.ListN.{length, take}
+use Rattle.std.proofs.lemmas.List.{get_or-take, length-take-le}
+use Rattle.std.proofs.Common.{rules}
 use Rattle.show.specs.declared.refusal.Refusal.TheVariants.{Counts, DriveLimits, LayoutLimits, SessionLimits}
 use Rattle.show.specs.Limits.{CountsWithin}
 use Rattle.show.specs.Decisions.{counts?, drive?, layout?, session?}
@@ -19,6 +22,19 @@ rows :
     show_check c.args.self ≡ first (layouts_check c.args.self) (sessions_check c.args.self)
 rows c h = rows_left _ h (tells_yes _ c.within.result c.if-not-within.false c.within.ensures)
 
+-- The slices that are walked have the counts' lengths.
+laid : (c : Else-not-within) → length (take c.args.self.laid c.args.self.layouts) ≡ c.args.self.laid
+laid c =
+    let room : length c.args.self.layouts ≡ 8 = search rules in
+    let h = (counts (goal.at.Else-not-within c).Else-not-counts_within).layouts.high in
+    length-take-le _ _ (omega arith)
+
+played : (c : Else-not-within) → length (take c.args.self.playing c.args.self.sessions) ≡ c.args.self.playing
+played c =
+    let room : length c.args.self.sessions ≡ 16 = search rules in
+    let h = (counts (goal.at.Else-not-within c).Else-not-counts_within).sessions in
+    length-take-le _ _ (omega arith)
+
 pub returns-then-not-counts_within : goal.returns-then-not-counts_within
 unfolding show_check
 returns-then-not-counts_within c =
@@ -34,54 +50,42 @@ pub loop-i-init : goal.loop-i-init
 loop-i-init c =
     begun _ _
 
-pub offset_bounds-self-i : goal.offset_bounds-self-i
-offset_bounds-self-i c =
-    let h = (counts (goal.at.offset_bounds-self-i c).Else-not-counts_within).layouts.high in omega arith
-
-pub bounds-self-i : goal.bounds-self-i
-bounds-self-i c =
-    let h = (counts (goal.at.bounds-self-i c).Else-not-counts_within).layouts.high in omega arith
-
 pub returns-then-not-within-2 : goal.returns-then-not-within-2
 returns-then-not-within-2 c =
     let at = goal.at.returns-then-not-within-2 c in
+    let l : c.loop-i.i < c.args.self.laid = omega (arith, laid at.Else-not-within) in
     sym (rows at.Else-not-within (counts at.Else-not-counts_within)
-    ∙ first_refused _ _ (sym (stopped _ _ _ c.loop-i.invariant c.loop-i-test.true
-    (broken_if (layout? _) (LayoutLimits _) c.within-in-loop-i.result c.if-not-within-2.true c.within-in-loop-i.ensures))))
+    ∙ first_refused _ _ (sym (stopped _ _ _ c.loop-i.invariant l
+    (broken_if (layout? _) (LayoutLimits _) c.within-in-loop-i.result c.if-not-within-2.true (rw get_or-take at c.within-in-loop-i.ensures)))))
 
 pub loop-i-preserved : goal.loop-i-preserved
 loop-i-preserved c =
-    body _ _ _ c.loop-i.invariant c.loop-i-test.true
-    (kept_if (layout? _) (LayoutLimits _) c.within-in-loop-i.result c.if-not-within-2.false c.within-in-loop-i.ensures)
+    let l : c.loop-i.i < c.args.self.laid = omega (arith, laid (goal.at.loop-i-preserved c).Else-not-within) in
+    body _ _ _ c.loop-i.invariant l
+    (kept_if (layout? _) (LayoutLimits _) c.within-in-loop-i.result c.if-not-within-2.false (rw get_or-take at c.within-in-loop-i.ensures))
 
 pub loop-k-init : goal.loop-k-init
 loop-k-init c =
     begun _ _
 
-pub offset_bounds-self-k : goal.offset_bounds-self-k
-offset_bounds-self-k c =
-    let h = (counts (goal.at.offset_bounds-self-k c).Else-not-counts_within).sessions in omega arith
-
-pub bounds-self-k : goal.bounds-self-k
-bounds-self-k c =
-    let h = (counts (goal.at.bounds-self-k c).Else-not-counts_within).sessions in omega arith
-
 pub returns-then-not-within-3 : goal.returns-then-not-within-3
 returns-then-not-within-3 c =
     let at = goal.at.returns-then-not-within-3 c in
+    let l : c.loop-k.k < c.args.self.playing = omega (arith, played at.Else-not-within) in
     sym (rows at.Else-not-within (counts at.Else-not-counts_within)
-    ∙ first_within _ _ (sym (ended _ _ _ c.loop-i.invariant c.loop-i-test.false))
-    ∙ sym (stopped _ _ _ c.loop-k.invariant c.loop-k-test.true
-    (broken_if (session? _ _) (SessionLimits _) c.within-in-loop-k.result c.if-not-within-3.true c.within-in-loop-k.ensures)))
+    ∙ first_within _ _ (sym (ended _ _ _ c.loop-i.invariant (omega (arith, laid at.Else-not-within))))
+    ∙ sym (stopped _ _ _ c.loop-k.invariant l
+    (broken_if (session? _ _) (SessionLimits _) c.within-in-loop-k.result c.if-not-within-3.true (rw get_or-take at c.within-in-loop-k.ensures))))
 
 pub loop-k-preserved : goal.loop-k-preserved
 loop-k-preserved c =
-    body _ _ _ c.loop-k.invariant c.loop-k-test.true
-    (kept_if (session? _ _) (SessionLimits _) c.within-in-loop-k.result c.if-not-within-3.false c.within-in-loop-k.ensures)
+    let l : c.loop-k.k < c.args.self.playing = omega (arith, played (goal.at.loop-k-preserved c).Else-not-within) in
+    body _ _ _ c.loop-k.invariant l
+    (kept_if (session? _ _) (SessionLimits _) c.within-in-loop-k.result c.if-not-within-3.false (rw get_or-take at c.within-in-loop-k.ensures))
 
 pub returns : goal.returns
 returns c =
     let at = goal.at.returns c in
     sym (rows at.Else-not-within (counts at.Else-not-counts_within)
-    ∙ first_within _ _ (sym (ended _ _ _ c.loop-i.invariant c.loop-i-test.false))
-    ∙ sym (ended _ _ _ c.loop-k.invariant c.loop-k-test.false))
+    ∙ first_within _ _ (sym (ended _ _ _ c.loop-i.invariant (omega (arith, laid at.Else-not-within))))
+    ∙ sym (ended _ _ _ c.loop-k.invariant (omega (arith, played at.Else-not-within))))

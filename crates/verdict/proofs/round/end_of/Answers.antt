@@ -1,6 +1,4 @@
--- `end_of` finds the first time over which a count does not fit. Invariant: the end of the first i sessions; what falls: playing - i.
--- Assumes nothing.
-use native.Mathlib.Omega.{arith}
+-- `end_of` finds the first time over which a count does not fit. Invariant: the end of the first i sessions. Assumes nothing.
 use Rattle.verdict.proofs.Ends.{can_last, end_begun, end_body, end_ended}
 use Rattle.verdict.proofs.round.end_of.Goals as goal
 
@@ -8,17 +6,9 @@ pub loop-i-init : goal.loop-i-init
 loop-i-init c =
     end_begun _ c.requires
 
-pub bounds-show-i : goal.bounds-show-i
-bounds-show-i c =
-    omega arith
-
 pub sooner-end-requires : goal.sooner-end-requires
 sooner-end-requires c =
     can_last _ c.requires _ c.loop-i-test.true
-
-pub loop-i-smaller : goal.loop-i-smaller
-loop-i-smaller c =
-    omega arith
 
 pub loop-i-preserved : goal.loop-i-preserved
 loop-i-preserved c =

@@ -1,11 +1,6 @@
--- `end_of` finds the first time over which a count does not fit. Invariant: the end of the first i sessions; what falls: playing - i.
--- Assumes nothing.
-use Prim.Native.Nat.{◌-◌}
+-- `end_of` finds the first time over which a count does not fit. Invariant: the end of the first i sessions. Assumes nothing.
 use Rattle.verdict.proofs.Ends.{EndTo}
 use Rattle.verdict.proofs.round.end_of.Given as goal
 
 abbrev pub invariant-loop-i : goal.invariant-loop-i
 invariant-loop-i l = EndTo l.show l.end l.i
-
-abbrev pub decreases-loop-i : goal.decreases-loop-i
-decreases-loop-i l = l.show.playing - l.i

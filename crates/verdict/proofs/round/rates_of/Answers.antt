@@ -1,6 +1,5 @@
--- `rates_of` fills a row with the rates. Invariant: the first i stand there, zeros above; what falls: playing - i. Assumes nothing.
+-- `rates_of` fills a row with the rates. Invariant: the first i stand there, zeros above. Assumes nothing.
 use mathlib.Core.Path.{refl}
-use native.Mathlib.Omega.{arith}
 use Rattle.show.proofs.Lists.{filled_none}
 use Rattle.verdict.proofs.Sets.{row_begun, row_body, row_ended}
 use Rattle.verdict.proofs.round.rates_of.Goals as goal
@@ -8,18 +7,6 @@ use Rattle.verdict.proofs.round.rates_of.Goals as goal
 pub loop-i-init : goal.loop-i-init
 loop-i-init c =
     row_begun _ _ _ (filled_none 16 0 _)
-
-pub bounds-show-i : goal.bounds-show-i
-bounds-show-i c =
-    omega arith
-
-pub bounds-rates-i : goal.bounds-rates-i
-bounds-rates-i c =
-    omega arith
-
-pub loop-i-smaller : goal.loop-i-smaller
-loop-i-smaller c =
-    omega arith
 
 pub loop-i-preserved : goal.loop-i-preserved
 loop-i-preserved c =

@@ -1,6 +1,6 @@
 -- `sooner` answers how long a round a session's buffer takes, or the end so far. Assumes nothing.
 use native.Mathlib.Omega.{arith}
-use Rattle.verdict.proofs.Ends.{most_capped, sooner_none, sooner_last, sooner_end}
+use Rattle.verdict.proofs.Ends.{most_capped, sooner_none, sooner_least}
 use Rattle.verdict.proofs.round.sooner.Goals as goal
 
 pub returns-then-buffer-taken : goal.returns-then-buffer-taken
@@ -15,10 +15,6 @@ pub overflow_add-last : goal.overflow_add-last
 overflow_add-last c =
     omega (arith, most_capped _ _ c.requires)
 
-pub returns-then-last-end : goal.returns-then-last-end
-returns-then-last-end c =
-    sooner_last _ _ c.requires _ c.if-buffer-taken.false c.if-last-end.true
-
 pub returns : goal.returns
 returns c =
-    sooner_end _ _ c.requires _ c.if-buffer-taken.false c.if-last-end.false
+    rw c.min.ensures (sooner_least _ _ c.requires _ c.if-buffer-taken.false)
