@@ -70,10 +70,7 @@ pub data FileReasonIs (f : List ℕ) : Result (Option Reason) Refusal → Type 0
 
 -- which reason, the session and the size: zeros where there is none
 abbrev pub reason_code : Result (Option Reason) Refusal → ℕ
-reason_code (Ok None) = 0
-reason_code (Ok (Some reason.Overload)) = 0
-reason_code (Ok (Some reason.Beyond)) = 0
-reason_code (Ok (Some (reason.Buffer i size))) = 0
+reason_code (Ok found) = 0
 reason_code (Err w) = code_of w
 
 abbrev pub reason_over : Result (Option Reason) Refusal → List ℕ → List ℕ

@@ -1,10 +1,10 @@
 // The calls for C, C++ and Rust, over numbers and slices. chikchiro_c exports them, and include/chikchiro.h says how to make them.
 #![tactic(auto)]
 
-ghost use Rattle.std.specs.Prelude.{◌≡◌, ◌∷◌, [], ◌≤◌, ◌<◌, length};
+ghost use Rattle.std.specs.Prelude.{Ok, Some, ◌≡◌, ◌∷◌, [], ◌≤◌, ◌<◌, length};
 ghost use Rattle.show.specs.Refusals.{place_of};
 ghost use Rattle.showfile.specs.Bytes.{over};
-ghost use Rattle.chikchiro.specs.Answers.{ReportedIs, FileDecisionIs, DecidedIs, slices, FileReasonIs, ReasonedIs, code_of};
+ghost use Rattle.chikchiro.specs.Answers.{ReportedIs, FileDecisionIs, DecidedIs, slices, FileReasonIs, ReasonedIs, reason_over, code_of};
 
 use reason::Reason;
 use show::refusal::Refusal;
@@ -61,10 +61,19 @@ pub fn chikchiro_reason(file: &[u8], reason: &mut [u64]) -> u64
     }
     match reasoned(file) {
         Ok(None) => put_reason(reason, 0, 0, 0),
-        Ok(Some(Reason::Overload)) => put_reason(reason, 1, 0, 0),
-        Ok(Some(Reason::Beyond)) => put_reason(reason, 2, 0, 0),
-        Ok(Some(Reason::Buffer { session, size })) => put_reason(reason, 3, session as u64, size),
+        Ok(Some(found)) => put_found(reason, found),
         Err(why) => code(why),
+    }
+}
+
+fn put_found(out: &mut [u64], reason: Reason) -> u64
+    requires { 3 ≤ length out.old }
+    ensures { (result ≡ 0) × (out.new ≡ reason_over (Ok (Some reason)) out.old) }
+{
+    match reason {
+        Reason::Overload => put_reason(out, 1, 0, 0),
+        Reason::Beyond => put_reason(out, 2, 0, 0),
+        Reason::Buffer { session, size } => put_reason(out, 3, session as u64, size),
     }
 }
 

@@ -3,7 +3,7 @@
 
 mod line;
 
-ghost use Rattle.std.specs.Prelude.{◌≤◌, length};
+ghost use Rattle.std.specs.Prelude.{◌≤◌, length, Ok, Some};
 ghost use Rattle.text.specs.Puts.{Put};
 ghost use Rattle.text.specs.Told.{Texted};
 ghost use Rattle.explain.specs.Text.{reason_text, refusal_text};
@@ -34,6 +34,7 @@ fn put_refusal(out: &mut [u8], why: Refusal) -> usize
     put_sentence(out, next, told)
 }
 
+// The text of a show that is within its limits, or of one that is not.
 fn put_reason(out: &mut [u8], reason: Result<Option<Reason>, Refusal>, tenths: u64) -> usize
     requires { said_most ≤ length out.old }
     ensures { Put out.old 0 (reason_text reason tenths) out.new result }
@@ -46,16 +47,25 @@ fn put_reason(out: &mut [u8], reason: Result<Option<Reason>, Refusal>, tenths: u
             tenths,
             b" per cent, and every buffer is large enough.\n",
         ),
-        Ok(Some(Reason::Overload)) => put_load(
+        Ok(Some(found)) => put_found(out, found, tenths),
+        Err(why) => put_refusal(out, why),
+    }
+}
+
+fn put_found(out: &mut [u8], reason: Reason, tenths: u64) -> usize
+    requires { said_most ≤ length out.old }
+    ensures { Put out.old 0 (reason_text (Ok (Some reason)) tenths) out.new result }
+{
+    match reason {
+        Reason::Overload => put_load(
             out,
             0,
             b"overload\nThe drive would have to work at ",
             tenths,
             b" per cent; at an even hundred it never keeps up.\n",
         ),
-        Ok(Some(Reason::Beyond)) => put_beyond(out, tenths),
-        Ok(Some(Reason::Buffer { session, size })) => put_buffer(out, session as u64, size, tenths),
-        Err(why) => put_refusal(out, why),
+        Reason::Beyond => put_beyond(out, tenths),
+        Reason::Buffer { session, size } => put_buffer(out, session as u64, size, tenths),
     }
 }
 

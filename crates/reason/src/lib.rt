@@ -16,17 +16,15 @@ use crate::work::weigh;
 use show::refusal::Refusal;
 use show::{Session, Show};
 
-// None of an accepted show. Too small a buffer comes with the lowest session that has one, and with the size that it needs.
+// Why a show is refused with 8. Too small a buffer comes with the lowest session that has one, and with the size that it needs.
 #[derive(Clone, Copy)]
 pub enum Reason {
-    None,
     Overload,
     Beyond,
     Buffer { session: usize, size: u64 },
-    Refused(Refusal),
 }
 
-// Why a show is refused: 2, 5, 6, 7, then the reason for 8, or none.
+// Why a show is refused: 2, 5, 6, 7, then the reason for 8; none of an accepted show.
 pub fn why(show: Show) -> Result<Option<Reason>, Refusal>
     ensures { ReasonIs show result }
 {

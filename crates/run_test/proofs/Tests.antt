@@ -1,13 +1,15 @@
 -- The test of a run record, part by part. Assumes nothing.
-use Rattle.std.specs.Prelude.{Ok, Some, Option}
+use Rattle.std.specs.Prelude.{Ok, Err, Some, Result, Option}
+use Rattle.std.specs.Result.{result_unwrap_or}
 use Prim.Native.Nat.{ℕ, ◌+◌, ◌≤◌, ◌<◌}
-use mathlib.Core.Path.{◌≡◌, refl, sym, ◌∙◌, subst}
+use mathlib.Core.Path.{◌≡◌, refl, sym, ap, ◌∙◌, subst}
 use mathlib.Core.Bool.{Bool, true, false}
 use mathlib.Core.List.{List}
 use mathlib.Core.Logic.{if_pos, if_neg}
 use native.Mathlib.Omega.{arith}
 use borrow.Author.Count.{below_more}
 use Rattle.show.specs.declared.Show.{Show}
+use Rattle.show.specs.declared.refusal.Refusal.{Refusal}
 use Rattle.show.specs.Limits.{Tells, ShowWithin}
 use Rattle.theory.specs.Counts.{Good}
 use Rattle.theory.specs.Shows.{load_of}
@@ -30,10 +32,19 @@ use Rattle.run_test.specs.Steps.{test_if, AtRest, AtPlace, UnderwayAt}
 
 -- ---- the counts
 
-module _ (s : Show) (m : List ℕ) where
-  fails_holds : {X : Type 0} → (Ok false) ≡ Ok true → X
-  fails_holds e = let z : ◌≡◌ {A = ℕ} 0 1 = cc in absurd (let f : ⊥ = omega arith in f)
+fails_holds : {X : Type 0} → ◌≡◌ {A = Result Bool Refusal} (Ok false) (Ok true) → X
+fails_holds e = let z : ◌≡◌ {A = ℕ} 0 1 = cc in absurd (let f : ⊥ = omega arith in f)
 
+-- by what an answer comes to where a refusal is no
+pub holds_told : (a : Result Bool Refusal) → result_unwrap_or a false ≡ true → a ≡ Ok true
+holds_told (Ok true) e = refl
+holds_told (Ok false) e = let z : ◌≡◌ {A = ℕ} 0 1 = cc in absurd (let f : ⊥ = omega arith in f)
+holds_told (Err w) e = let z : ◌≡◌ {A = ℕ} 0 1 = cc in absurd (let f : ⊥ = omega arith in f)
+
+pub fails_told : (a : Result Bool Refusal) → result_unwrap_or a false ≡ false → a ≡ Ok true → ⊥
+fails_told a e h = let g : true ≡ false = sym (ap (λ (x : Result Bool Refusal). result_unwrap_or x false) h) ∙ e in let z : ◌≡◌ {A = ℕ} 0 1 = cc in omega arith
+
+module _ (s : Show) (m : List ℕ) where
   pub trial_good : (t : Trial) → TrialIs s m t → t.answer ≡ Ok true → ShowWithin s × Good (load_of s) (set_of m)
   trial_good t (holds w g) e = (w, g)
   trial_good t (fails w n) e = fails_holds e

@@ -29,9 +29,9 @@ pub fn test_run(run: Run) -> Test
     let counts = run.counts;
     let trial = tried(show, counts);
     let answer = trial.answer;
-    let Ok(true) = answer else {
+    if !answer.unwrap_or(false) {
         return Test::Damaged;
-    };
+    }
     let mut i: usize = 0;
     while i < show.playing {
         if !run.states[i].within(show.sessions[i], run.started) {
