@@ -20,9 +20,7 @@ pub struct Drawn {
 pub fn take_from(state: State, session: Session, started: bool, n: u64) -> Drawn
     ensures { result ≡ drawn_of state session started n }
 {
-    let mut next = state;
-    let check = take(&mut next, session, started, n);
-    Drawn { check, state: next }
+    take_lent(state, session, started, n)
 }
 
 // The same on a state that the player lends.
@@ -47,5 +45,7 @@ pub fn take(state: &mut State, session: Session, started: bool, n: u64) -> Resul
 pub fn take_lent(given: State, session: Session, started: bool, n: u64) -> Drawn
     ensures { result ≡ drawn_of given session started n }
 {
-    take_from(given, session, started, n)
+    let mut lent = given;
+    let check = take(&mut lent, session, started, n);
+    Drawn { check, state: lent }
 }
