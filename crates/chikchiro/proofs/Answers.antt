@@ -1,5 +1,5 @@
 -- From what was decided, and from the reason, to what a call answers. Assumes nothing.
-use Rattle.std.specs.Prelude.{Ok, Err, Result, Option}
+use Rattle.std.specs.Prelude.{Ok, Err}
 use mathlib.Core.Path.{◌≡◌, sym, ap, subst, ◌∙◌}
 use mathlib.Core.List.{List, [], ◌∷◌}
 use Prim.Native.Nat.{ℕ, ◌≤◌}
@@ -14,9 +14,8 @@ use Rattle.showfile.specs.Answers.{read_of}
 use Rattle.verdict.specs.declared.Decision.{Decision}
 use Rattle.verdict.specs.Answers.{DecisionIs, accepted, no_set, outside, refused_for}
 use Rattle.verdict.proofs.Decisions.{accepted_refused}
-use Rattle.reason.specs.declared.Reason.{Reason}
 use Rattle.reason.specs.declared.Reason.TheVariants as reason
-use Rattle.reason.specs.Answers.{ReasonIs}
+use Rattle.reason.specs.Answers.{Reasoned, ReasonIs}
 use Rattle.reason.specs.Answers as why
 use Rattle.chikchiro.specs.Answers.{FileDecisionIs, FileReasonIs, Slices, slices, Enough, verdict_code, filled_by, DecidedIs, code_of}
 use Rattle.chikchiro.specs.Answers.{ReasonedIs, reason_code, reason_over}
@@ -46,7 +45,7 @@ module _ (f : List ℕ) (g : Reading) (is : g ≡ read_of f) where
   pub decision_unread : (w : Refusal) → g.check ≡ Err w → FileDecisionIs f (refused_for w)
   decision_unread w e = answers.unread w (ap check_of (sym is) ∙ e)
 
-  pub reason_read : (r : (Result (Option Reason) Refusal)) → g.check ≡ Ok tt → ReasonIs g.show r → FileReasonIs f r
+  pub reason_read : (r : Reasoned) → g.check ≡ Ok tt → ReasonIs g.show r → FileReasonIs f r
   reason_read r e h = answers.read r (ap check_of (sym is) ∙ e) (subst (λ (x : Reading). ReasonIs x.show r) is h)
 
   pub reason_unread : (w : Refusal) → g.check ≡ Err w → FileReasonIs f (Err w)
@@ -69,12 +68,12 @@ module _ (f : List ℕ) (b : Slices) (d : Decision) (enough : Enough b) (is : Fi
 refused_small : (s : Show) (w : Refusal) → ReasonIs s (Err w) → Small w
 refused_small s w (why.outside _ e) = show_small s e
 
-pub reason_small : (f : List ℕ) (r : (Result (Option Reason) Refusal)) → FileReasonIs f r → {w : Refusal} → r ≡ Err w → Small w
+pub reason_small : (f : List ℕ) (r : Reasoned) → FileReasonIs f r → {w : Refusal} → r ≡ Err w → Small w
 reason_small f r (answers.unread v e) {w} p =
     let q : Err v ≡ Err w = p in let same : v ≡ w = cc in subst Small same (read_small f e)
 reason_small f r (answers.read _ e h) {w} p = refused_small (read_of f).show w (subst (ReasonIs (read_of f).show) p h)
 
-module _ (f b : List ℕ) (p : (Result (Option Reason) Refusal)) (enough : 3 ≤ length b) (is : FileReasonIs f p) where
-  pub reasoned_as : {q : (Result (Option Reason) Refusal)} {r : ℕ} {x : List ℕ} → p ≡ q → r ≡ reason_code q → x ≡ reason_over q b → ReasonedIs f b r x
+module _ (f b : List ℕ) (p : Reasoned) (enough : 3 ≤ length b) (is : FileReasonIs f p) where
+  pub reasoned_as : {q : Reasoned} {r : ℕ} {x : List ℕ} → p ≡ q → r ≡ reason_code q → x ≡ reason_over q b → ReasonedIs f b r x
   reasoned_as {q} {r} {x} e g h =
-      rw (g, h) (subst (λ (z : (Result (Option Reason) Refusal)). ReasonedIs f b (reason_code z) (reason_over z b)) e (answers.reasoned p enough is))
+      rw (g, h) (subst (λ (z : Reasoned). ReasonedIs f b (reason_code z) (reason_over z b)) e (answers.reasoned p enough is))

@@ -1,5 +1,5 @@
 -- Each call has one answer, and leaves one state of the slices. Assumes nothing.
-use Rattle.std.specs.Prelude.{Err, Result, Option}
+use Rattle.std.specs.Prelude.{Err}
 use Prim.Native.Nat.{ℕ}
 use mathlib.Core.Path.{◌≡◌, refl, sym, ap, ◌∙◌}
 use mathlib.Core.List.{List}
@@ -10,7 +10,7 @@ use Rattle.showfile.specs.Answers.{read_of}
 use Rattle.verdict.specs.declared.Decision.{Decision}
 use Rattle.verdict.specs.Answers.{refused_for}
 use Rattle.verdict.proofs.Once.{decision_once}
-use Rattle.reason.specs.declared.Reason.{Reason}
+use Rattle.reason.specs.Answers.{Reasoned}
 use Rattle.reason.specs.declared.Reason.TheVariants as reason
 use Rattle.reason.proofs.Once.{reason_once}
 use Rattle.report.proofs.Reports.{report_once}
@@ -51,7 +51,7 @@ decided_once f b m n x y (answers.decided d k h) (answers.decided e l g) =
     let s = file_decision_once f d e h g in
     (ap (λ (z : Decision). verdict_code z.verdict) s, ap (λ (z : Decision). filled_by z.verdict z b) s)
 
-file_reason_once : (f : List ℕ) (p q : (Result (Option Reason) Refusal)) → FileReasonIs f p → FileReasonIs f q → p ≡ q
+file_reason_once : (f : List ℕ) (p q : Reasoned) → FileReasonIs f p → FileReasonIs f q → p ≡ q
 file_reason_once f p q (answers.read _ e h) (answers.read _ g k) = reason_once (read_of f).show p q h k
 file_reason_once f p q (answers.read _ e h) (answers.unread w g) = within_refused (sym e ∙ g)
 file_reason_once f p q (answers.unread v e) (answers.read _ g k) = within_refused (sym g ∙ e)
@@ -62,4 +62,4 @@ reasoned_once f b m n x y (answers.short l) (answers.short k) = (refl, refl)
 reasoned_once f b m n x y (answers.short l) (answers.reasoned p k h) = absurd (l k)
 reasoned_once f b m n x y (answers.reasoned p k h) (answers.short l) = absurd (l k)
 reasoned_once f b m n x y (answers.reasoned p k h) (answers.reasoned q l g) =
-    let s = file_reason_once f p q h g in (ap reason_code s, ap (λ (z : (Result (Option Reason) Refusal)). reason_over z b) s)
+    let s = file_reason_once f p q h g in (ap reason_code s, ap (λ (z : Reasoned). reason_over z b) s)

@@ -1,5 +1,5 @@
 -- What the calls for C answer, and what the lent slices then hold.
-use Rattle.std.specs.Prelude.{ℕ, ◌+◌, ◌*◌, ◌≤◌, ◌≡◌, List, [], ◌∷◌, length, Ok, Err, Some, None, Result, Option}
+use Rattle.std.specs.Prelude.{ℕ, ◌+◌, ◌*◌, ◌≤◌, ◌≡◌, List, [], ◌∷◌, length, Ok, Err, Some, None}
 use Rattle.show.specs.Outcomes.{Check}
 use Rattle.show.specs.declared.refusal.Refusal.{Refusal}
 use Rattle.show.specs.declared.refusal.Refusal.TheVariants.{BufferShort}
@@ -9,9 +9,8 @@ use Rattle.showfile.specs.Answers.{read_of}
 use Rattle.showfile.specs.Bytes.{over}
 use Rattle.verdict.specs.declared.Decision.{Decision}
 use Rattle.verdict.specs.Answers.{DecisionIs, refused_for}
-use Rattle.reason.specs.declared.Reason.{Reason}
 use Rattle.reason.specs.declared.Reason.TheVariants as reason
-use Rattle.reason.specs.Answers.{ReasonIs}
+use Rattle.reason.specs.Answers.{Reasoned, ReasonIs}
 use Rattle.report.specs.Answers.{ReportIs}
 
 -- a refusal in one number: its number, and 256 times its place
@@ -64,16 +63,16 @@ pub data DecidedIs (f : List ℕ) (b : Slices) : ℕ → Slices → Type 0 where
 
 -- ---- the reason
 
-pub data FileReasonIs (f : List ℕ) : Result (Option Reason) Refusal → Type 0 where
-  read : (r : (Result (Option Reason) Refusal)) → (read_of f).check ≡ Ok tt → ReasonIs (read_of f).show r → FileReasonIs f r
+pub data FileReasonIs (f : List ℕ) : Reasoned → Type 0 where
+  read : (r : Reasoned) → (read_of f).check ≡ Ok tt → ReasonIs (read_of f).show r → FileReasonIs f r
   unread : (w : Refusal) → (read_of f).check ≡ Err w → FileReasonIs f (Err w)
 
 -- which reason, the session and the size: zeros where there is none
-abbrev pub reason_code : Result (Option Reason) Refusal → ℕ
+abbrev pub reason_code : Reasoned → ℕ
 reason_code (Ok found) = 0
 reason_code (Err w) = code_of w
 
-abbrev pub reason_over : Result (Option Reason) Refusal → List ℕ → List ℕ
+abbrev pub reason_over : Reasoned → List ℕ → List ℕ
 reason_over (Ok None) b = over b 0 (0 ∷ 0 ∷ 0 ∷ [])
 reason_over (Ok (Some reason.Overload)) b = over b 0 (1 ∷ 0 ∷ 0 ∷ [])
 reason_over (Ok (Some reason.Beyond)) b = over b 0 (2 ∷ 0 ∷ 0 ∷ [])
@@ -82,4 +81,4 @@ reason_over (Err w) b = b
 
 pub data ReasonedIs (f b : List ℕ) : ℕ → List ℕ → Type 0 where
   short : (3 ≤ length b → ⊥) → ReasonedIs f b (code_of BufferShort) b
-  reasoned : (r : (Result (Option Reason) Refusal)) → 3 ≤ length b → FileReasonIs f r → ReasonedIs f b (reason_code r) (reason_over r b)
+  reasoned : (r : Reasoned) → 3 ≤ length b → FileReasonIs f r → ReasonedIs f b (reason_code r) (reason_over r b)

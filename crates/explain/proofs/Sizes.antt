@@ -1,5 +1,5 @@
 -- No text is longer than said_most, whatever its numbers. Assumes nothing.
-use Rattle.std.specs.Prelude.{Ok, Err, Some, None, Result, Option}
+use Rattle.std.specs.Prelude.{Ok, Err, Some, None}
 use Prim.Native.Nat.{ℕ, ◌/◌, ◌%◌, ◌≤◌}
 use mathlib.Core.Path.{◌≡◌}
 use mathlib.Core.List.{List, [], ◌∷◌}
@@ -16,7 +16,7 @@ use Rattle.text.specs.Lines.{refused_text}
 use Rattle.text.specs.Puts.{FitsAt}
 use Rattle.text.proofs.Digits.{decimal_most}
 use Rattle.text.proofs.Lines.{refused_few}
-use Rattle.reason.specs.declared.Reason.{Reason}
+use Rattle.reason.specs.Answers.{Reasoned}
 use Rattle.reason.specs.declared.Reason.TheVariants as reason
 use Rattle.explain.specs.Text.{sentences, spoken, sentence, refusal_text, reason_text}
 use Rattle.explain.specs.Answers.{SaidIs, because, unread, said_most}
@@ -57,7 +57,7 @@ module _ (t : ℕ) where
   tenth : length (decimal (t % 10)) ≤ 20
   tenth = decimal_most (t % 10)
 
-  reason_few : (r : (Result (Option Reason) Refusal)) → length (reason_text r t) ≤ said_most
+  reason_few : (r : Reasoned) → length (reason_text r t) ≤ said_most
   reason_few (Ok None) = simp length-append (omega (arith, whole, tenth))
   reason_few (Ok (Some reason.Overload)) = simp length-append (omega (arith, whole, tenth))
   reason_few (Ok (Some reason.Beyond)) = simp length-append (omega (arith, whole, tenth, decimal_most buffer_most))
@@ -70,7 +70,7 @@ said_most_holds f t (unread w e) = refusal_few w
 
 -- A buffer that takes every text has room for this one.
 module _ (b : List ℕ) (l : said_most ≤ length b) where
-  pub reason_room : (r : (Result (Option Reason) Refusal)) (t : ℕ) → FitsAt b 0 (reason_text r t)
+  pub reason_room : (r : Reasoned) (t : ℕ) → FitsAt b 0 (reason_text r t)
   reason_room r t = record { fits = (let g = reason_few t r in omega arith) }
 
   pub refusal_room : (w : Refusal) → FitsAt b 0 (refusal_text w)

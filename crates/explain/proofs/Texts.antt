@@ -1,5 +1,5 @@
 -- Laws of what is said of a file: that there is one text, and the text of what was answered. Assumes nothing.
-use Rattle.std.specs.Prelude.{Ok, Err, Result, Option}
+use Rattle.std.specs.Prelude.{Ok, Err, Result}
 use mathlib.Core.Path.{◌≡◌, sym, ap, ◌∙◌, subst}
 use mathlib.Core.List.{List}
 use Prim.Native.Nat.{ℕ}
@@ -13,8 +13,7 @@ use Rattle.showfile.specs.Answers.{read_of}
 use Rattle.showfile.proofs.Readable.{read_within}
 use Rattle.theory.specs.Reasons.{tenths}
 use Rattle.theory.specs.Shows.{load_of}
-use Rattle.reason.specs.declared.Reason.{Reason}
-use Rattle.reason.specs.Answers.{ReasonIs, loaded_of}
+use Rattle.reason.specs.Answers.{Reasoned, ReasonIs, loaded_of}
 use Rattle.reason.proofs.Answers.{load_told}
 use Rattle.reason.proofs.Once.{reason_once}
 use Rattle.explain.specs.Text.{reason_text, refusal_text}
@@ -22,7 +21,7 @@ use Rattle.explain.specs.Answers.{SaidIs, because, unread}
 
 pub said_once : (f t u : List ℕ) → SaidIs f t → SaidIs f u → t ≡ u
 said_once f t u (because r e a) (because s g b) =
-    ap (λ (x : (Result (Option Reason) Refusal)). reason_text x (tenths (load_of (read_of f).show))) (reason_once (read_of f).show r s a b)
+    ap (λ (x : Reasoned). reason_text x (tenths (load_of (read_of f).show))) (reason_once (read_of f).show r s a b)
 said_once f t u (because r e a) (unread w g) = within_refused (sym e ∙ g)
 said_once f t u (unread w e) (because s g b) = within_refused (sym g ∙ e)
 said_once f t u (unread v e) (unread w g) =
@@ -47,7 +46,7 @@ module _ (f : List ℕ) (g : Reading) (r : g ≡ read_of f) where
     answered : l ≡ Ok (tenths (load_of (read_of f).show))
     answered = a ∙ ap (λ (x : Reading). loaded_of x.show) r ∙ load_read f (checked e)
 
-    pub told_reason : (t : ℕ) (y : (Result (Option Reason) Refusal)) → l ≡ Ok t → ReasonIs g.show y → SaidIs f (reason_text y t)
+    pub told_reason : (t : ℕ) (y : Reasoned) → l ≡ Ok t → ReasonIs g.show y → SaidIs f (reason_text y t)
     told_reason t y h is =
         let both : Ok (tenths (load_of (read_of f).show)) ≡ Ok t = sym answered ∙ h in
         let same : tenths (load_of (read_of f).show) ≡ t = cc in

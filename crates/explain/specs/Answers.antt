@@ -1,19 +1,18 @@
 -- What is said of a file, and what the lent buffer then holds: docs/RULES.md, section 11.
-use Rattle.std.specs.Prelude.{ℕ, ◌≡◌, List, Ok, Err, Result, Option}
+use Rattle.std.specs.Prelude.{ℕ, ◌≡◌, List, Ok, Err}
 use Rattle.show.specs.declared.refusal.Refusal.{Refusal}
 use Rattle.showfile.specs.declared.Written.{Written}
 use Rattle.showfile.specs.Answers.{read_of}
 use Rattle.theory.specs.Reasons.{tenths}
 use Rattle.theory.specs.Shows.{load_of}
-use Rattle.reason.specs.declared.Reason.{Reason}
-use Rattle.reason.specs.Answers.{ReasonIs}
+use Rattle.reason.specs.Answers.{Reasoned, ReasonIs}
 use Rattle.text.specs.Told.{ToldIs}
 use Rattle.explain.specs.Text.{reason_text, refusal_text}
 
 -- The text for a file: the reason for its show, with the load; 1 to 7 where it is no show's file.
 pub data SaidIs (f : List ℕ) : List ℕ → Type 0 where
   because :
-      (r : (Result (Option Reason) Refusal)) → (read_of f).check ≡ Ok tt → ReasonIs (read_of f).show r →
+      (r : Reasoned) → (read_of f).check ≡ Ok tt → ReasonIs (read_of f).show r →
       SaidIs f (reason_text r (tenths (load_of (read_of f).show)))
   unread : (w : Refusal) → (read_of f).check ≡ Err w → SaidIs f (refusal_text w)
 

@@ -1,5 +1,5 @@
 -- The line and the sentence for each reason, as bytes: docs/RULES.md, section 11.
-use Rattle.std.specs.Prelude.{ℕ, ◌/◌, ◌%◌, List, [], ◌∷◌, ◌++◌, Ok, Err, Some, None, Result, Option}
+use Rattle.std.specs.Prelude.{ℕ, ◌/◌, ◌%◌, List, [], ◌∷◌, ◌++◌, Ok, Err, Some, None}
 use Rattle.std.proofs.Math.Logic.{ite}
 use Rattle.std.proofs.Math.Decide.{ℕ_discrete}
 use Rattle.show.specs.declared.refusal.Refusal.{Refusal}
@@ -9,7 +9,7 @@ use Rattle.show.specs.Refusals.{told_of}
 use Rattle.text.specs.Ascii.{ascii}
 use Rattle.text.specs.Decimal.{decimal}
 use Rattle.text.specs.Lines.{paired, refused_text}
-use Rattle.reason.specs.declared.Reason.{Reason}
+use Rattle.reason.specs.Answers.{Reasoned}
 use Rattle.reason.specs.declared.Reason.TheVariants as reason
 
 -- A load in tenths of a per cent, as a percentage among words: 1003 is 100.3.
@@ -67,7 +67,7 @@ abbrev pub refusal_text : Refusal → List ℕ
 refusal_text w = refused_text w ++ sentence (told_of w)
 
 -- The reason, and the load in tenths of a per cent.
-abbrev pub reason_text : Result (Option Reason) Refusal → ℕ → List ℕ
+abbrev pub reason_text : Reasoned → ℕ → List ℕ
 reason_text (Ok None) t = load_text (ascii "none\nThe drive keeps up: it works at ") t (ascii " per cent, and every buffer is large enough.\n")
 reason_text (Ok (Some reason.Overload)) t = load_text (ascii "overload\nThe drive would have to work at ") t (ascii " per cent; at an even hundred it never keeps up.\n")
 reason_text (Ok (Some reason.Beyond)) t = beyond_text t

@@ -100,8 +100,5 @@ pub fn explain(file: &[u8], buffer: &mut [u8]) -> Written
         };
     }
     let len = put_text(file, buffer);
-    Written {
-        check: Ok(()),
-        len,
-    }
+    Written { check: Ok(()), len }
 }

@@ -1,10 +1,10 @@
 // Jobs on a run.
 ghost use Rattle.std.specs.Prelude.{◌<◌};
 
-use show::refusal::Refusal;
 use crate::sums::{four, number_of, odd, three, two};
 use run::Run;
 use scheduler::Choice;
+use show::refusal::Refusal;
 use std::num::wrapping_sub_u64;
 use workahead::magnitude;
 

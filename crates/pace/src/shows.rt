@@ -1,8 +1,8 @@
 // Jobs on a show.
-use show::refusal::Refusal;
 use crate::sums::{cushion, first_cushion, four, last, number_of, three, two};
 use reason::Reason;
 use show::Show;
+use show::refusal::Refusal;
 
 // The loop alone.
 pub(crate) fn nothings(turns: u64) -> u64 {

@@ -1,8 +1,8 @@
 // What a turn adds, and how turns differ.
 ghost use Rattle.std.specs.Prelude.{◌<◌};
 
-use show::refusal::Refusal;
 use show::Show;
+use show::refusal::Refusal;
 use std::num::{wrapping_add_u32, wrapping_add_u64};
 
 pub(crate) fn two(a: u64, b: u64) -> u64 {

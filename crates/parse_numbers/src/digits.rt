@@ -3,7 +3,6 @@ ghost use Rattle.std.specs.Prelude.{◌≡◌, Some};
 ghost use Rattle.parse_numbers.specs.Numbers.{counted_of, digit_of, longer_by, fitting};
 ghost use Rattle.parse_numbers.specs.Bytes.{hex_of, byte_of, or_zero};
 
-
 const MOST: u64 = 18_446_744_073_709_551_615;
 
 // A byte from `least` to `most` counts on from `first`; any other is `other`.

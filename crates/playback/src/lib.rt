@@ -73,10 +73,7 @@ pub fn pass(mut run: Run, d: u64) -> Moved
     let states = run.states;
     let next = advance(show, states, run.started, d);
     run.states = next;
-    Moved {
-        check: Ok(()),
-        run,
-    }
+    Moved { check: Ok(()), run }
 }
 
 // A player takes n bytes of a session: 19, 9, 12, 10.
@@ -103,10 +100,7 @@ pub fn take(mut run: Run, session: usize, n: u64) -> Moved
     };
     let state = drawn.state;
     run.states[session] = state;
-    Moved {
-        check: Ok(()),
-        run,
-    }
+    Moved { check: Ok(()), run }
 }
 
 // A block more is put.

@@ -1,5 +1,5 @@
 -- The calls for C. Assumes nothing.
-use Rattle.std.specs.Prelude.{Ok, Err, Some, None, Result, Option}
+use Rattle.std.specs.Prelude.{Ok, Err, Some, None}
 use Prim.Native.Nat.{ℕ, ◌≤◌, ◌<◌}
 use mathlib.Core.Path.{◌≡◌, refl}
 use mathlib.Core.List.{List, [], ◌∷◌}
@@ -17,7 +17,7 @@ use Rattle.showfile.specs.Answers.{read_of}
 use Rattle.verdict.specs.declared.Decision.{Decision}
 use Rattle.verdict.specs.Answers.{refused_for}
 use Rattle.verdict.proofs.Decisions.{accepted_refused}
-use Rattle.reason.specs.declared.Reason.{Reason}
+use Rattle.reason.specs.Answers.{Reasoned}
 use Rattle.reason.specs.declared.Reason.TheVariants as reason
 use Rattle.reason.proofs.Once.{reason_given}
 use Rattle.text.specs.Ascii.{ascii}
@@ -55,10 +55,10 @@ module _ (f : List ℕ) where
       from (Ok tt) e = let d = answered.deciding (read_of f).show in (d.0, answers.read d.0 e d.1)
       from (Err w) e = (refused_for w, answers.unread w e)
 
-  file_reasoned : (r : (Result (Option Reason) Refusal)) × FileReasonIs f r
+  file_reasoned : (r : Reasoned) × FileReasonIs f r
   file_reasoned = from (read_of f).check refl
     where
-      from : (k : Check) → (read_of f).check ≡ k → (r : (Result (Option Reason) Refusal)) × FileReasonIs f r
+      from : (k : Check) → (read_of f).check ≡ k → (r : Reasoned) × FileReasonIs f r
       from (Ok tt) e = let r = reason_given (read_of f).show in (r.0, answers.read r.0 e r.1)
       from (Err w) e = (Err w, answers.unread w e)
 
@@ -103,7 +103,7 @@ kept_deciding : (f : List ℕ) (b : Slices) (r : ℕ) (x : Slices) → DecidedIs
 kept_deciding f b r x (answers.short h) n = refl
 kept_deciding f b r x (answers.decided d h k) n = kept_by d.verdict d b n
 
-reason_kept : (p : (Result (Option Reason) Refusal)) (b : List ℕ) → (reason_code p ≡ 0 → ⊥) → reason_over p b ≡ b
+reason_kept : (p : Reasoned) (b : List ℕ) → (reason_code p ≡ 0 → ⊥) → reason_over p b ≡ b
 reason_kept (Ok None) b n = absurd (n refl)
 reason_kept (Ok (Some reason.Overload)) b n = absurd (n refl)
 reason_kept (Ok (Some reason.Beyond)) b n = absurd (n refl)

@@ -1,5 +1,5 @@
 -- The numbers of the refusals, and that an answer is known by what it comes to in numbers. Assumes nothing.
-use Rattle.std.specs.Prelude.{Ok, Err, Some, None, Result, Option, true, false}
+use Rattle.std.specs.Prelude.{Ok, Err, Some, None, true, false}
 use Prim.Native.Nat.{ℕ}
 use mathlib.Core.Path.{◌≡◌, refl, sym, ap, ◌∙◌}
 use mathlib.Core.List.{List, [], ◌∷◌}
@@ -15,9 +15,8 @@ use Rattle.cost.specs.WorstTimes.{worst_outcome}
 use Rattle.count.specs.Answers.{asked_outcome}
 use Rattle.verdict.specs.Answers.{verdict_outcome}
 use Rattle.trial.specs.Answers.{answer_outcome}
-use Rattle.reason.specs.declared.Reason.{Reason}
 use Rattle.reason.specs.declared.Reason.TheVariants as reason
-use Rattle.reason.specs.Answers.{reason_outcome, loaded_outcome}
+use Rattle.reason.specs.Answers.{Reasoned, reason_outcome, loaded_outcome}
 use Rattle.run_test.specs.declared.Test.TheVariants as test
 use Rattle.run_test.specs.Answers.{test_outcome}
 use Rattle.scheduler.specs.declared.Choice.{Choice}
@@ -65,7 +64,7 @@ abbrev chosen_from : List ℤ → Choice
 chosen_from [] = choice.Idle
 chosen_from (z ∷ l) = choice.Read (sized z)
 
-abbrev reason_from : List ℤ → Result (Option Reason) Refusal
+abbrev reason_from : List ℤ → Reasoned
 reason_from l = get_or ((Ok None) ∷ (Ok (Some reason.Overload)) ∷ (Ok (Some reason.Beyond)) ∷ []) (value_at 0 l) (Ok (Some (reason.Buffer (value_at 1 l) (value_at 2 l))))
 
 known : Known

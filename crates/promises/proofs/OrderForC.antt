@@ -1,5 +1,5 @@
 -- The calls for C: the one number, and the order in which it tells refusals. Assumes nothing.
-use Rattle.std.specs.Prelude.{Ok, Err, Result, Option}
+use Rattle.std.specs.Prelude.{Ok, Err}
 use Prim.Native.Nat.{ℕ, ◌/◌, ◌%◌, ◌<◌}
 use mathlib.Core.Path.{◌≡◌, refl, sym, subst, ◌∙◌}
 use mathlib.Core.List.{List, []}
@@ -16,8 +16,7 @@ use Rattle.showfile.proofs.Readable.{read_within}
 use Rattle.theory.specs.Counts.{Accepted}
 use Rattle.verdict.specs.declared.Decision.{Decision}
 use Rattle.verdict.specs.Answers.{verdict_outcome}
-use Rattle.reason.specs.declared.Reason.{Reason}
-use Rattle.reason.specs.Answers.{ReasonIs}
+use Rattle.reason.specs.Answers.{Reasoned, ReasonIs}
 use Rattle.reason.specs.Answers as why
 use Rattle.report.specs.Answers.{load_in}
 use Rattle.chikchiro.specs.Answers.{code_of, verdict_code, reason_code, Slices, Enough, FileDecisionIs, DecidedIs, FileReasonIs, ReasonedIs}
@@ -74,14 +73,14 @@ module _ (f : List ℕ) where
   decided_tells b r x (answers.decided d h k) =
       record { present = λ n. absurd (n h); absent = λ c. rw (verdict_outcome_is d.verdict) (file_decided_tells d k) }
 
-  reason_grants : (p : (Result (Option Reason) Refusal)) → (read_of f).check ≡ Ok tt → ReasonIs (read_of f).show p → Grants (code_outcome (reason_code p))
+  reason_grants : (p : Reasoned) → (read_of f).check ≡ Ok tt → ReasonIs (read_of f).show p → Grants (code_outcome (reason_code p))
   reason_grants p e (why.none h a) = refl
   reason_grants p e (why.overload h a) = refl
   reason_grants p e (why.beyond h a) = refl
   reason_grants p e (why.buffer i size h a) = refl
   reason_grants p e (why.outside w out) = within_refused (sym (within_check (read_of f).show (read_within f e)) ∙ out)
 
-  file_reasoned_tells : (p : (Result (Option Reason) Refusal)) → FileReasonIs f p → FileThen f Grants (code_outcome (reason_code p))
+  file_reasoned_tells : (p : Reasoned) → FileReasonIs f p → FileThen f Grants (code_outcome (reason_code p))
   file_reasoned_tells p (answers.read _ e h) = read_tells (code_outcome (reason_code p)) e (reason_grants p e h)
   file_reasoned_tells p (answers.unread w e) = rw (code_outcome_is w) (unread_tells w e)
 

@@ -1,5 +1,5 @@
 -- The order of refusals of the calls on a show. Assumes nothing.
-use Rattle.std.specs.Prelude.{Ok, Err, Some, None, Result, Option}
+use Rattle.std.specs.Prelude.{Ok, Err, Some, None}
 use Prim.Native.Nat.{ℕ, ◌*◌}
 use mathlib.Core.Path.{◌≡◌, refl, sym, ap, subst, ◌∙◌}
 use mathlib.Core.List.{List, [], ◌∷◌}
@@ -28,9 +28,8 @@ use Rattle.verdict.specs.declared.Decision.{Decision}
 use Rattle.trial.specs.declared.Trial.{Trial}
 use Rattle.verdict.specs.Answers.{DecisionIs, accepted, no_set, outside, verdict_outcome}
 use Rattle.trial.specs.Answers.{TrialIs, holds, fails, untried, answer_outcome}
-use Rattle.reason.specs.declared.Reason.{Reason}
 use Rattle.reason.specs.declared.Reason.TheVariants as reason
-use Rattle.reason.specs.Answers.{ReasonIs, loaded_of, reason_outcome}
+use Rattle.reason.specs.Answers.{Reasoned, ReasonIs, loaded_of, reason_outcome}
 use Rattle.reason.specs.Answers as why
 use Rattle.run.specs.declared.Opened.{Opened}
 use Rattle.run.specs.Opening.{OpenIs}
@@ -107,7 +106,7 @@ module _ (s : Show) where
   try_tells m t (fails h g) = within_tells (granted (pos 0 ∷ [])) h refl
   try_tells m t (untried w e) = outside_tells w e
 
-  why_tells : (r : (Result (Option Reason) Refusal)) → ReasonIs s r → ShowThen s Grants (reason_outcome r)
+  why_tells : (r : Reasoned) → ReasonIs s r → ShowThen s Grants (reason_outcome r)
   why_tells r (why.none h a) = within_tells (reason_outcome (Ok None)) h refl
   why_tells r (why.overload h a) = within_tells (reason_outcome (Ok (Some reason.Overload))) h refl
   why_tells r (why.beyond h a) = within_tells (reason_outcome (Ok (Some reason.Beyond))) h refl

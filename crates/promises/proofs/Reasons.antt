@@ -1,5 +1,5 @@
 -- Why it was a no, by citation. Assumes nothing.
-use Rattle.std.specs.Prelude.{Ok, Err, Some, None, Result, Option, true}
+use Rattle.std.specs.Prelude.{Ok, Err, Some, None, true}
 use Prim.Native.Nat.{ℕ, ◌*◌, ◌/◌, ◌≤◌, ◌<◌}
 use mathlib.Core.Path.{◌≡◌, refl, sym, ◌∙◌, ap, ap₂, subst}
 use mathlib.Core.List.{◌∷◌, []}
@@ -25,16 +25,15 @@ use Rattle.verdict.specs.declared.Decision.{Decision}
 use Rattle.verdict.specs.Answers.{DecisionIs, accepted, no_set, outside}
 use Rattle.verdict.proofs.Once.{within_outside}
 use Rattle.verdict.proofs.Decisions.{accepted_exactly, accepted_refused}
-use Rattle.reason.specs.declared.Reason.{Reason}
 use Rattle.reason.specs.declared.Reason.TheVariants as reason
-use Rattle.reason.specs.Answers.{ReasonIs, none, overload, beyond, buffer}
+use Rattle.reason.specs.Answers.{Reasoned, ReasonIs, none, overload, beyond, buffer}
 use Rattle.reason.specs.Answers as why
 use Rattle.reason.proofs.Answers.{load_told}
 use Rattle.reason.proofs.Reasons.{limit}
 use Rattle.reason.proofs.Once.{reason_once}
 use Rattle.reason.proofs.Unused.{alike_reason, alike_load}
 use Rattle.promises.specs.Refusals.{OneOf}
-use Rattle.promises.proofs.Says.{same_refusal, same_verdict}
+use Rattle.promises.proofs.Says.{same_refusal}
 use Rattle.promises.proofs.Only.{only}
 use Rattle.promises.specs.Reasons.{ForEight, WhenTrue, AsDecided, ExactSize, Reasons, load_sum, full_load}
 
@@ -57,14 +56,14 @@ module _ (s : Show) where
   of_refused : (w : Refusal) → ReasonIs s (Err w) → show_check s ≡ Err w
   of_refused w (why.outside v out) = out
 
-  one_of : (r : (Result (Option Reason) Refusal)) → ReasonIs s r → ShowWithin s → (r ≡ Ok None) ⊎ ForEight r
+  one_of : (r : Reasoned) → ReasonIs s r → ShowWithin s → (r ≡ Ok None) ⊎ ForEight r
   one_of r (none w a) v = inl refl
   one_of r (overload w a) v = inr (inl refl)
   one_of r (beyond w a) v = inr (inr (inl refl))
   one_of r (buffer i size w a) v = inr (inr (inr (i, (size, refl))))
   one_of r (why.outside w e) v = within_outside s w v e
 
-  when_true : (r : (Result (Option Reason) Refusal)) → ReasonIs s r → WhenTrue s r
+  when_true : (r : Reasoned) → ReasonIs s r → WhenTrue s r
   when_true r h =
       record {
         none = (λ e. of_none (subst (ReasonIs s) e h), λ p. reason_once s r (Ok None) h (none p.0 p.1));
@@ -91,7 +90,7 @@ not_eight s e = by (only.check s NoSet e)
 
 module _ (s : Show) where
   -- A reason for an 8 is a reason within the limits, and for a no.
-  eight_within : (r : (Result (Option Reason) Refusal)) → ReasonIs s r → ForEight r → ShowWithin s × (Accepted (load_of s) → ⊥)
+  eight_within : (r : Reasoned) → ReasonIs s r → ForEight r → ShowWithin s × (Accepted (load_of s) → ⊥)
   eight_within r h (inl e) =
       let x = of_overload s (subst (ReasonIs s) e h) in (x.0, λ a. x.1 a.0 a.1.counted a.1.augmenting)
   eight_within r h (inr (inl e)) =
@@ -107,7 +106,7 @@ module _ (s : Show) where
   said_eight d (no_set w h) v no_one = refl
   said_eight d (outside w e) v no_one = within_outside s w v e
 
-  module _ (r : (Result (Option Reason) Refusal)) (h : ReasonIs s r) where
+  module _ (r : Reasoned) (h : ReasonIs s r) where
     yes_both : (d : Decision) → DecisionIs s d → (r ≡ Ok None) ↔ (d.verdict ≡ Ok tt)
     yes_both d g =
         (λ e. (accepted_exactly s d g).1 ((when_true s r h).none.0 e), λ e. (when_true s r h).none.1 ((accepted_exactly s d g).0 e))
@@ -115,14 +114,14 @@ module _ (s : Show) where
     eight_back : (d : Decision) → DecisionIs s d → d.verdict ≡ Err NoSet → ForEight r
     eight_back d (accepted m w g) e = accepted_refused (sym e)
     eight_back d (no_set w g) e = elim (one_of s r h w) [ inl n ↦ absurd (g (of_none s (subst (ReasonIs s) n h)).1) | inr f ↦ f ]
-    eight_back d (outside w out) e = not_eight s (out ∙ ap Err (same_verdict e))
+    eight_back d (outside w out) e = not_eight s (out ∙ ap Err (same_refusal e))
 
     limits_both : (d : Decision) → DecisionIs s d → (w : Refusal) → r ≡ Err w → d.verdict ≡ Err w
     limits_both d (accepted m v g) w e = within_outside s w v (((when_true s r h).refused w).0 e)
     limits_both d (no_set v g) w e = within_outside s w v (((when_true s r h).refused w).0 e)
     limits_both d (outside v out) w e = ap Err (same_refusal (sym out ∙ ((when_true s r h).refused w).0 e))
 
-  as_decided : (r : (Result (Option Reason) Refusal)) (d : Decision) → ReasonIs s r → DecisionIs s d → AsDecided r d
+  as_decided : (r : Reasoned) (d : Decision) → ReasonIs s r → DecisionIs s d → AsDecided r d
   as_decided r d h g =
       record {
         yes = yes_both r h d g;

@@ -31,7 +31,7 @@ use Rattle.run.specs.declared.Opened.{Opened}
 use Rattle.run.specs.Opening.{OpenIs, opened_by, no_run}
 use Rattle.standing.proofs.Laws.{stand_empty}
 use Rattle.promises.specs.Refusals.{Buffers, Empty}
-use Rattle.promises.proofs.Says.{same_verdict, same_answer, holds_refused, fails_refused, opened_refused}
+use Rattle.promises.proofs.Says.{same_refusal, granted_refused, opened_refused}
 
 -- ---- buffers
 
@@ -92,13 +92,13 @@ told_empty is most b r x (short h) w e = refl
 
 decide_empty : (s : Show) (d : Decision) → DecisionIs s d → (w : Refusal) → d.verdict ≡ Err w → d ≡ refused_for w
 decide_empty s d (accepted m h g) w e = accepted_refused (sym e)
-decide_empty s d (no_set h none) w e = ap refused_for (same_verdict e)
-decide_empty s d (outside v out) w e = ap refused_for (same_verdict e)
+decide_empty s d (no_set h none) w e = ap refused_for (same_refusal e)
+decide_empty s d (outside v out) w e = ap refused_for (same_refusal e)
 
 tried_empty : (s : Show) (m : List ℕ) (t : Trial) → TrialIs s m t → (w : Refusal) → t.answer ≡ Err w → t ≡ untried_for w
-tried_empty s m t (holds h g) w e = holds_refused e
-tried_empty s m t (fails h g) w e = fails_refused e
-tried_empty s m t (untried v out) w e = ap untried_for (same_answer e)
+tried_empty s m t (holds h g) w e = granted_refused e
+tried_empty s m t (fails h g) w e = granted_refused e
+tried_empty s m t (untried v out) w e = ap untried_for (same_refusal e)
 
 open_empty : (s : Show) (o : Opened) → OpenIs s o → (w : Refusal) → o.check ≡ Err w → o ≡ record { check = Err w; run = no_run }
 open_empty s o h w e =

@@ -1,6 +1,6 @@
 -- Wrong answers that the contracts rule out, of shows, costs, counts, verdicts and reasons: each is computed, or cites the one answer that
 -- there is. Assumes nothing.
-use Rattle.std.specs.Prelude.{Ok, Err, Some, None, Result, Option, Bool, true, false}
+use Rattle.std.specs.Prelude.{Ok, Err, Some, None, Result, Bool, true, false}
 use Prim.Native.Nat.{ℕ, ◌+◌, ◌*◌, ◌≤◌}
 use mathlib.Core.Path.{refl, sym, ap, ◌∙◌}
 use mathlib.Core.List.{[], ◌∷◌}
@@ -33,9 +33,8 @@ use Rattle.verdict.specs.Answers.{set_of}
 use Rattle.trial.specs.Answers.{TrialIs, holds, timed_as}
 use Rattle.verdict.proofs.Once.{decision_once}
 use Rattle.trial.proofs.Once.{trial_once}
-use Rattle.reason.specs.declared.Reason.{Reason}
 use Rattle.reason.specs.declared.Reason.TheVariants as reason
-use Rattle.reason.specs.Answers.{ReasonIs, loaded_of}
+use Rattle.reason.specs.Answers.{Reasoned, ReasonIs, loaded_of}
 use Rattle.reason.proofs.Once.{reason_once}
 use Rattle.promises.specs.Numbers.{X, clip, buffered, show_of, places}
 use Rattle.promises.specs.Refusals.{OneOf}
@@ -143,7 +142,7 @@ of_verdict =
     }
 
 -- which reason, and its size
-abbrev kind : Result (Option Reason) Refusal → ℕ
+abbrev kind : Reasoned → ℕ
 kind (Ok None) = 0
 kind (Ok (Some reason.Overload)) = 1
 kind (Ok (Some reason.Beyond)) = 2

@@ -1,5 +1,5 @@
 -- What is said on the telephone: the worked texts are computed. Assumes nothing.
-use Rattle.std.specs.Prelude.{Ok, Some, None, Result, Option}
+use Rattle.std.specs.Prelude.{Ok, Some, None}
 use Prim.Native.Nat.{ℕ, ◌≤◌}
 use mathlib.Core.Path.{◌≡◌, refl, sym}
 use mathlib.Core.List.{List, [], ◌∷◌}
@@ -33,9 +33,8 @@ use Rattle.theory.proofs.Shows.{show_sound}
 use Rattle.verdict.specs.Answers.{accepted_with, set_of}
 use Rattle.verdict.proofs.Decisions.{accepted_exactly}
 use Rattle.text.specs.Decimal.{digits, decimal}
-use Rattle.reason.specs.declared.Reason.{Reason}
 use Rattle.reason.specs.declared.Reason.TheVariants as reason
-use Rattle.reason.specs.Answers.{ReasonIs, none, overload, buffer, loaded_of}
+use Rattle.reason.specs.Answers.{Reasoned, ReasonIs, none, overload, buffer, loaded_of}
 use Rattle.reason.specs.Steps.{widest_of}
 use Rattle.reason.proofs.Reasons.{wide_counts}
 use Rattle.reason.proofs.Unused.{alike_reason}
@@ -54,7 +53,7 @@ use Rattle.promises.proofs.Table.{table, settles, all, both}
 use Rattle.promises.proofs.Trips.{trips}
 
 -- A file that was written of a show is told by the reason for the show.
-module _ (x : Show) (note : List ℕ) (shaped : Shaped x) (w : ShowWithin x) (h : length note ≤ note_most) (r : (Result (Option Reason) Refusal)) (is : ReasonIs x r) where
+module _ (x : Show) (note : List ℕ) (shaped : Shaped x) (w : ShowWithin x) (h : length note ≤ note_most) (r : Reasoned) (is : ReasonIs x r) where
   -- what is read of it
   abbrev got : Reading
   got = reading (Ok tt) (zeroed x) (length note)
@@ -104,7 +103,7 @@ one_short =
 
 either :
     (f t : List ℕ) → SaidIs f t →
-    ((r : (Result (Option Reason) Refusal)) × (((r ≡ Ok None) ⊎ ForEight r) × (t ≡ reason_text r (tenths (load_of (read_of f).show)))))
+    ((r : Reasoned) × (((r ≡ Ok None) ⊎ ForEight r) × (t ≡ reason_text r (tenths (load_of (read_of f).show)))))
     ⊎ ((w : Refusal) × (OneOf (1 ∷ 2 ∷ 3 ∷ 4 ∷ 5 ∷ 6 ∷ 7 ∷ []) (number_of w) × (t ≡ refusal_text w)))
 either f t (because r e is) = inl (r, ((reasons.when_true (read_of f).show r is).one (read_within f e), refl))
 either f t (unread w e) = inr (w, (only.reading f w e, refl))

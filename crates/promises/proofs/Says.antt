@@ -1,5 +1,5 @@
 -- What a refusal is told apart by, and the law by which a call whose order is known says none but some of the numbers. Assumes nothing.
-use Rattle.std.specs.Prelude.{Ok, Err}
+use Rattle.std.specs.Prelude.{Result, Ok, Err}
 use Prim.Native.Nat.{ℕ, ◌<◌}
 use mathlib.Core.Path.{◌≡◌, refl, sym, ap, subst, ◌∙◌}
 use mathlib.Core.Bool.{Bool, true, false, ◌||◌}
@@ -23,20 +23,11 @@ use Rattle.promises.proofs.Numbered.{numbered}
 
 -- ---- refusals told apart, alone and inside other answers
 
-pub same_refusal : {v w : Refusal} → Err v ≡ Err w → v ≡ w
+pub same_refusal : {A : Type 0} {v w : Refusal} → ◌≡◌ {A = Result A Refusal} (Err v) (Err w) → v ≡ w
 same_refusal e = cc
 
-pub same_verdict : {v w : Refusal} → Err v ≡ Err w → v ≡ w
-same_verdict e = cc
-
-pub same_answer : {v w : Refusal} → Err v ≡ Err w → v ≡ w
-same_answer e = cc
-
-pub holds_refused : {X : Type 0} {w : Refusal} → (Ok true) ≡ Err w → X
-holds_refused e = let z : ◌≡◌ {A = ℕ} 0 1 = cc in absurd (let f : ⊥ = omega arith in f)
-
-pub fails_refused : {X : Type 0} {w : Refusal} → (Ok false) ≡ Err w → X
-fails_refused e = let z : ◌≡◌ {A = ℕ} 0 1 = cc in absurd (let f : ⊥ = omega arith in f)
+pub granted_refused : {A X : Type 0} {a : A} {w : Refusal} → ◌≡◌ {A = Result A Refusal} (Ok a) (Err w) → X
+granted_refused e = let z : ◌≡◌ {A = ℕ} 0 1 = cc in absurd (let f : ⊥ = omega arith in f)
 
 module _ (s : Show) (c : List ℕ) where
   pub opened_refused : (v : Check) (w : Refusal) → (opened_by s c v).check ≡ Err w → v ≡ Err w

@@ -1,6 +1,5 @@
 -- Demand 1, that there is an answer. proofs/Answered.antt proves it.
-use Rattle.std.specs.Prelude.{ℕ, List, Result, Option}
-use Rattle.show.specs.declared.refusal.Refusal.{Refusal}
+use Rattle.std.specs.Prelude.{ℕ, List}
 use Rattle.show.specs.declared.Show.{Show}
 use Rattle.showfile.specs.declared.Written.{Written}
 use Rattle.verdict.specs.declared.Decision.{Decision}
@@ -10,8 +9,7 @@ use Rattle.trial.specs.Answers.{TrialIs}
 use Rattle.run.specs.declared.Opened.{Opened}
 use Rattle.run.specs.Opening.{OpenIs}
 use Rattle.report.specs.Answers.{ReportIs}
-use Rattle.reason.specs.declared.Reason.{Reason}
-use Rattle.reason.specs.Answers.{ReasonIs}
+use Rattle.reason.specs.Answers.{Reasoned, ReasonIs}
 use Rattle.explain.specs.Answers.{ExplainIs}
 
 -- Where the statement of a call is an equation, its right side is an answer, and what a test tells of is told (`drive?` and its like). Of the others:
@@ -19,6 +17,6 @@ pub record Answered : Type 0 where
   pub deciding : (s : Show) → (d : Decision) × DecisionIs s d
   pub trying : (s : Show) (m : List ℕ) → (t : Trial) × TrialIs s m t
   pub opening : (s : Show) → (o : Opened) × OpenIs s o
-  pub why : (s : Show) → (r : (Result (Option Reason) Refusal)) × ReasonIs s r
+  pub why : (s : Show) → (r : Reasoned) × ReasonIs s r
   pub reporting : (f b : List ℕ) → (r : Written) × ((x : List ℕ) × ReportIs f b r x)
   pub explaining : (f b : List ℕ) → (r : Written) × ((x : List ℕ) × ExplainIs f b r x)

@@ -1,7 +1,6 @@
 -- The three demands, each sentence over what holds it, and that two results which satisfy one statement are equal. proofs/Demands.antt
 -- proves all of it by citation.
-use Rattle.std.specs.Prelude.{ℕ, ◌≡◌, Bool, List, Result, Option}
-use Rattle.show.specs.declared.refusal.Refusal.{Refusal}
+use Rattle.std.specs.Prelude.{ℕ, ◌≡◌, Bool, List}
 use Rattle.show.specs.declared.Show.{Show}
 use Rattle.show.specs.Limits.{Tells}
 use Rattle.parse.specs.Places.{PlaceIs}
@@ -12,8 +11,7 @@ use Rattle.verdict.specs.Answers.{DecisionIs}
 use Rattle.trial.specs.Answers.{TrialIs}
 use Rattle.run.specs.declared.Opened.{Opened}
 use Rattle.run.specs.Opening.{OpenIs}
-use Rattle.reason.specs.declared.Reason.{Reason}
-use Rattle.reason.specs.Answers.{ReasonIs}
+use Rattle.reason.specs.Answers.{Reasoned, ReasonIs}
 use Rattle.report.specs.Answers.{TextIs, ReportIs}
 use Rattle.explain.specs.Answers.{SaidIs, ExplainIs}
 use Rattle.chikchiro.specs.Answers.{Slices, ReportedIs, DecidedIs, ReasonedIs}
@@ -95,7 +93,7 @@ pub record Once : Type 1 where
   pub decision : (s : Show) (d e : Decision) → DecisionIs s d → DecisionIs s e → d ≡ e
   pub trial : (s : Show) (m : List ℕ) (a b : Trial) → TrialIs s m a → TrialIs s m b → a ≡ b
   pub opening : (s : Show) (a b : Opened) → OpenIs s a → OpenIs s b → a ≡ b
-  pub reason : (s : Show) (p q : (Result (Option Reason) Refusal)) → ReasonIs s p → ReasonIs s q → p ≡ q
+  pub reason : (s : Show) (p q : Reasoned) → ReasonIs s p → ReasonIs s q → p ≡ q
   -- `report` and `explain`, in what they answer and in every byte; and the texts that they put
   pub report : (f b : List ℕ) (r s : Written) (x y : List ℕ) → ReportIs f b r x → ReportIs f b s y → (r ≡ s) × (x ≡ y)
   pub text : (f t u : List ℕ) → TextIs f t → TextIs f u → t ≡ u

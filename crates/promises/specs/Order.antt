@@ -1,7 +1,6 @@
 -- Demand 1, the order of refusals: of the faults that are present the first in a call's order is told, and no other. docs/RULES.md, section 4.
 -- proofs/Order.antt proves it.
-use Rattle.std.specs.Prelude.{ℕ, ◌-◌, ◌≤◌, ◌<◌, ◌≡◌, Bool, true, false, List, [], pos, ◌<ℤ◌, length, drop, Some, None, Result, Option, ℤ}
-use Rattle.show.specs.declared.refusal.Refusal.{Refusal}
+use Rattle.std.specs.Prelude.{ℕ, ◌-◌, ◌≤◌, ◌<◌, ◌≡◌, Bool, true, false, List, [], pos, ◌<ℤ◌, length, drop, Some, None, ℤ}
 use Rattle.show.specs.declared.Session.{Session}
 use Rattle.show.specs.declared.Show.{Show}
 use Rattle.show.specs.Limits.{Between, CountsWithin, DriveWithin, LaidWithin, PlayingWithin}
@@ -18,8 +17,7 @@ use Rattle.verdict.specs.declared.Decision.{Decision}
 use Rattle.trial.specs.declared.Trial.{Trial}
 use Rattle.verdict.specs.Answers.{DecisionIs, verdict_outcome}
 use Rattle.trial.specs.Answers.{TrialIs, answer_outcome}
-use Rattle.reason.specs.declared.Reason.{Reason}
-use Rattle.reason.specs.Answers.{ReasonIs, loaded_of, reason_outcome, loaded_outcome}
+use Rattle.reason.specs.Answers.{Reasoned, ReasonIs, loaded_of, reason_outcome, loaded_outcome}
 use Rattle.showfile.specs.declared.Written.{Written}
 use Rattle.showfile.specs.declared.trailer.Trailer.{Trailer}
 use Rattle.showfile.specs.File.{trailer_of, file_of}
@@ -94,7 +92,7 @@ pub record OfShows : Type 0 where
   pub deciding :
       (s : Show) (d : Decision) → DecisionIs s d → verdict_outcome d.verdict tells ShowThen s (8 when (Accepted (load_of s) → ⊥) else Grants)
   pub trying : (s : Show) (m : List ℕ) (t : Trial) → TrialIs s m t → answer_outcome t.answer tells ShowThen s Grants
-  pub why : (s : Show) (r : (Result (Option Reason) Refusal)) → ReasonIs s r → reason_outcome r tells ShowThen s Grants
+  pub why : (s : Show) (r : Reasoned) → ReasonIs s r → reason_outcome r tells ShowThen s Grants
   pub load : (s : Show) → loaded_outcome (loaded_of s) tells ShowThen s Grants
   pub opening : (s : Show) (o : Opened) → OpenIs s o → check_outcome o.check tells ShowThen s (8 when (Accepted (load_of s) → ⊥) else Grants)
 

@@ -1,5 +1,5 @@
 -- Why it was a no: docs/RULES.md, section 11. proofs/Reasons.antt proves it.
-use Rattle.std.specs.Prelude.{ℕ, ◌+◌, ◌*◌, ◌/◌, ◌≤◌, ◌<◌, ◌≡◌, ◌⊎◌, ◌↔◌, Ok, Err, Some, None, Result, Option, true}
+use Rattle.std.specs.Prelude.{ℕ, ◌+◌, ◌*◌, ◌/◌, ◌≤◌, ◌<◌, ◌≡◌, ◌⊎◌, ◌↔◌, Ok, Err, Some, None, true}
 use Rattle.show.specs.declared.Show.{Show}
 use Rattle.show.specs.declared.refusal.Refusal.{Refusal}
 use Rattle.show.specs.declared.refusal.Refusal.TheVariants.{NoSet}
@@ -11,16 +11,15 @@ use Rattle.theory.specs.Reasons.{with_buffers, widened, with_buffer, NeverKeepsU
 use Rattle.theory.specs.Shows.{load_of}
 use Rattle.verdict.specs.declared.Decision.{Decision}
 use Rattle.verdict.specs.Answers.{DecisionIs}
-use Rattle.reason.specs.declared.Reason.{Reason}
 use Rattle.reason.specs.declared.Reason.TheVariants as reason
-use Rattle.reason.specs.Answers.{ReasonIs, loaded_of}
+use Rattle.reason.specs.Answers.{Reasoned, ReasonIs, loaded_of}
 
 -- A reason for an 8.
-abbrev pub ForEight : Result (Option Reason) Refusal → Type 0
+abbrev pub ForEight : Reasoned → Type 0
 ForEight r = (r ≡ Ok (Some reason.Overload)) ⊎ ((r ≡ Ok (Some reason.Beyond)) ⊎ ((i : ℕ) × ((size : ℕ) × (r ≡ Ok (Some (reason.Buffer i size))))))
 
 -- Each answer is given when it is true, and only then.
-pub record WhenTrue (s : Show) (r : (Result (Option Reason) Refusal)) : Type 0 where
+pub record WhenTrue (s : Show) (r : Reasoned) : Type 0 where
   pub none : (r ≡ Ok None) ↔ (ShowWithin s × Accepted (load_of s))
   pub overload : (r ≡ Ok (Some reason.Overload)) ↔ (ShowWithin s × NeverKeepsUp (load_of s))
   pub beyond : (r ≡ Ok (Some reason.Beyond)) ↔ (ShowWithin s × Beyond (load_of s) buffer_most)
@@ -30,7 +29,7 @@ pub record WhenTrue (s : Show) (r : (Result (Option Reason) Refusal)) : Type 0 w
   pub one : ShowWithin s → (r ≡ Ok None) ⊎ ForEight r
 
 -- It goes with what deciding says: none with a yes, a reason with an 8, and 2, 5, 6 and 7 as there.
-pub record AsDecided (r : (Result (Option Reason) Refusal)) (d : Decision) : Type 0 where
+pub record AsDecided (r : Reasoned) (d : Decision) : Type 0 where
   pub yes : (r ≡ Ok None) ↔ (d.verdict ≡ Ok tt)
   pub eight : ForEight r ↔ (d.verdict ≡ Err NoSet)
   pub limits : (w : Refusal) → r ≡ Err w → d.verdict ≡ Err w
@@ -61,8 +60,8 @@ abbrev pub full_load : Show → ℕ
 full_load s = s.drive.cylinder * s.drive.block * 1000000
 
 pub record Reasons : Type 0 where
-  pub when_true : (s : Show) (r : (Result (Option Reason) Refusal)) → ReasonIs s r → WhenTrue s r
-  pub as_decided : (s : Show) (r : (Result (Option Reason) Refusal)) (d : Decision) → ReasonIs s r → DecisionIs s d → AsDecided r d
+  pub when_true : (s : Show) (r : Reasoned) → ReasonIs s r → WhenTrue s r
+  pub as_decided : (s : Show) (r : Reasoned) (d : Decision) → ReasonIs s r → DecisionIs s d → AsDecided r d
   -- OVERLOAD: no set at any buffer size is no yes with any buffers; and it is so exactly if the sum is at least N x A x 1,000,000.
   pub any_buffers : (s : Show) → NeverKeepsUp (load_of s) ↔ ((b : ℕ → ℕ) → Accepted (with_buffers b (load_of s)) → ⊥)
   pub even_hundred : (s : Show) → ShowWithin s → NeverKeepsUp (load_of s) ↔ (full_load s ≤ load_sum s)
@@ -73,5 +72,5 @@ pub record Reasons : Type 0 where
   pub reads : (s : Show) → ShowWithin s → NeverKeepsUp (load_of s) ↔ (1000 ≤ tenths (load_of s))
   pub accepted_reads : (s : Show) → ShowWithin s → Accepted (load_of s) → tenths (load_of s) < 1000
   -- nothing looks at unused places
-  pub unused : (s t : Show) → Alike s t → (r : (Result (Option Reason) Refusal)) → ReasonIs s r → ReasonIs t r
+  pub unused : (s t : Show) → Alike s t → (r : Reasoned) → ReasonIs s r → ReasonIs t r
   pub unused_load : (s t : Show) → Alike s t → loaded_of s ≡ loaded_of t

@@ -1,5 +1,5 @@
 -- Demand 1, what is said no with and what is left after it: docs/RULES.md, section 4. proofs/Refusals.antt proves it.
-use Rattle.std.specs.Prelude.{ℕ, ◌+◌, ◌<◌, ◌≡◌, Bool, List, [], ◌∷◌, ◌⊎◌, length, Err, Result, Option}
+use Rattle.std.specs.Prelude.{ℕ, ◌+◌, ◌<◌, ◌≡◌, Bool, List, [], ◌∷◌, ◌⊎◌, length, Err}
 use Rattle.show.specs.declared.Session.{Session}
 use Rattle.show.specs.declared.Show.{Show}
 use Rattle.show.specs.declared.refusal.Refusal.{Refusal}
@@ -17,9 +17,8 @@ use Rattle.showfile_copy.specs.Trips.{reread_of, copied_of, copy_of}
 use Rattle.text.specs.Puts.{put_over, put_to}
 use Rattle.report.specs.Answers.{ReportIs}
 use Rattle.explain.specs.Answers.{ExplainIs}
-use Rattle.reason.specs.declared.Reason.{Reason}
 use Rattle.reason.specs.declared.Reason.TheVariants as reason
-use Rattle.reason.specs.Answers.{ReasonIs, loaded_of, reason_outcome, loaded_outcome}
+use Rattle.reason.specs.Answers.{Reasoned, ReasonIs, loaded_of, reason_outcome, loaded_outcome}
 use Rattle.verdict.specs.declared.Decision.{Decision}
 use Rattle.trial.specs.declared.Trial.{Trial}
 use Rattle.verdict.specs.Answers.{DecisionIs, refused_for, verdict_outcome}
@@ -85,7 +84,7 @@ pub record Only : Type 0 where
   pub reporting : (f b : List ℕ) (r : Written) (x : List ℕ) → ReportIs f b r x → Says Err r.check (16 ∷ [])
   pub explaining : (f b : List ℕ) (r : Written) (x : List ℕ) → ExplainIs f b r x → Says Err r.check (16 ∷ [])
   pub deciding : (s : Show) (d : Decision) → DecisionIs s d → Says Err d.verdict (2 ∷ 5 ∷ 6 ∷ 7 ∷ 8 ∷ [])
-  pub why : (s : Show) (r : (Result (Option Reason) Refusal)) → ReasonIs s r → Says Err r (2 ∷ 5 ∷ 6 ∷ 7 ∷ [])
+  pub why : (s : Show) (r : Reasoned) → ReasonIs s r → Says Err r (2 ∷ 5 ∷ 6 ∷ 7 ∷ [])
   pub load : (s : Show) → Says Err (loaded_of s) (2 ∷ 5 ∷ 6 ∷ 7 ∷ [])
   pub trying : (s : Show) (m : List ℕ) (t : Trial) → TrialIs s m t → Says Err t.answer (2 ∷ 5 ∷ 6 ∷ 7 ∷ [])
   pub opening : (s : Show) (o : Opened) → OpenIs s o → Says Err o.check (2 ∷ 5 ∷ 6 ∷ 7 ∷ 8 ∷ [])

@@ -1,13 +1,12 @@
 -- What is said on the telephone, to the byte: docs/RULES.md, section 11. proofs/Sayings.antt proves it.
-use Rattle.std.specs.Prelude.{ℕ, ◌≤◌, ◌≡◌, List, [], ◌∷◌, ◌⊎◌, length, replicate, Ok, Result, Option}
+use Rattle.std.specs.Prelude.{ℕ, ◌≤◌, ◌≡◌, List, [], ◌∷◌, ◌⊎◌, length, replicate, Ok, None}
 use Rattle.show.specs.declared.refusal.Refusal.{Refusal}
 use Rattle.show.specs.Refusals.{number_of}
 use Rattle.showfile.specs.File.{file_of}
 use Rattle.showfile.specs.Answers.{read_of}
 use Rattle.theory.specs.Reasons.{tenths}
 use Rattle.theory.specs.Shows.{load_of}
-use Rattle.reason.specs.declared.Reason.{Reason}
-use Rattle.reason.specs.declared.Reason.TheVariants.{None}
+use Rattle.reason.specs.Answers.{Reasoned}
 use Rattle.text.specs.Ascii.{ascii}
 use Rattle.explain.specs.Text.{reason_text, refusal_text}
 use Rattle.explain.specs.Answers.{SaidIs, said_most}
@@ -30,7 +29,7 @@ pub record Sayings : Type 0 where
   -- every text is that of a reason, or that of a refusal with 1 to 7
   pub either :
       (f t : List ℕ) → SaidIs f t →
-      ((r : (Result (Option Reason) Refusal)) × (((r ≡ Ok None) ⊎ ForEight r) × (t ≡ reason_text r (tenths (load_of (read_of f).show)))))
+      ((r : Reasoned) × (((r ≡ Ok None) ⊎ ForEight r) × (t ≡ reason_text r (tenths (load_of (read_of f).show)))))
       ⊎ ((w : Refusal) × (OneOf (1 ∷ 2 ∷ 3 ∷ 4 ∷ 5 ∷ 6 ∷ 7 ∷ []) (number_of w) × (t ≡ refusal_text w)))
   -- no text has more bytes
   pub most : (f t : List ℕ) → SaidIs f t → length t ≤ said_most

@@ -1,10 +1,9 @@
 -- Each show has one reason, and no two. Assumes nothing.
-use Rattle.std.specs.Prelude.{Ok, Err, Some, None, Result, Option}
+use Rattle.std.specs.Prelude.{Ok, Err, Some, None}
 use Prim.Native.Nat.{ℕ}
 use mathlib.Core.Path.{◌≡◌, refl, sym, ◌∙◌, ap, ap₂}
 use mathlib.Core.Logic.{inl, inr}
 use Rattle.show.specs.Outcomes.{Check}
-use Rattle.show.specs.declared.refusal.Refusal.{Refusal}
 use Rattle.show.specs.declared.Show.{Show}
 use Rattle.show.specs.Limits.{ShowWithin, buffer_most}
 use Rattle.show.specs.Checks.{show_check}
@@ -15,9 +14,8 @@ use Rattle.theory.specs.Shows.{load_of}
 use Rattle.theory.proofs.Reasons.{wide_accepted, too_small_refuses, too_small_once, reason_some}
 use Rattle.theory.proofs.Shows.{show_sound}
 use Rattle.verdict.proofs.Once.{within_outside}
-use Rattle.reason.specs.declared.Reason.{Reason}
 use Rattle.reason.specs.declared.Reason.TheVariants as reason
-use Rattle.reason.specs.Answers.{ReasonIs, none, overload, beyond, buffer, outside}
+use Rattle.reason.specs.Answers.{Reasoned, ReasonIs, none, overload, beyond, buffer, outside}
 use Rattle.reason.proofs.Reasons.{limit}
 
 module _ (s : Show) where
@@ -29,7 +27,7 @@ module _ (s : Show) where
   wide : ShowWithin s → Accepted (load_of s) → Accepted (widened buffer_most (load_of s))
   wide w = wide_accepted (load_of s) buffer_most (limit s w)
 
-  pub reason_once : (p q : (Result (Option Reason) Refusal)) → ReasonIs s p → ReasonIs s q → p ≡ q
+  pub reason_once : (p q : Reasoned) → ReasonIs s p → ReasonIs s q → p ≡ q
   reason_once p q (none w a) (none v b) = refl
   reason_once p q (none w a) (overload v b) = absurd (b a.0 a.1.counted a.1.augmenting)
   reason_once p q (none w a) (beyond v b) = absurd (b.refused (wide w a))
@@ -58,10 +56,10 @@ module _ (s : Show) where
       let g : Err r ≡ Err t = sym e ∙ f in let same : r ≡ t = cc in ap Err same
 
   -- There is one.
-  pub reason_given : (r : (Result (Option Reason) Refusal)) × ReasonIs s r
+  pub reason_given : (r : Reasoned) × ReasonIs s r
   reason_given = from (show_check s) refl
     where
-      within : ShowWithin s → (r : (Result (Option Reason) Refusal)) × ReasonIs s r
+      within : ShowWithin s → (r : Reasoned) × ReasonIs s r
       within w = elim (reason_some (load_of s) (show_sound s w) buffer_most) [
         | inl a ↦ (Ok None, none w a)
         | inr x ↦ elim x [
@@ -73,6 +71,6 @@ module _ (s : Show) where
         ]
       ]
 
-      from : (c : Check) → show_check s ≡ c → (r : (Result (Option Reason) Refusal)) × ReasonIs s r
+      from : (c : Check) → show_check s ≡ c → (r : Reasoned) × ReasonIs s r
       from (Ok tt) e = within (check_within s e)
       from (Err r) e = (Err r, outside r e)

@@ -1,11 +1,10 @@
 -- Nothing looks at unused places: shows that agree below their counts have one reason and one load. Assumes nothing.
-use Rattle.std.specs.Prelude.{Ok, Err, Result, Option}
+use Rattle.std.specs.Prelude.{Ok, Err}
 use Prim.Native.Nat.{ℕ, ◌<◌}
 use mathlib.Core.Path.{◌≡◌, refl, sym, ◌∙◌, ap}
 use native.Mathlib.Omega.{arith}
 use native.Mathlib.Nat.{le_antisymm, le_refl}
 use Rattle.show.specs.Outcomes.{Check}
-use Rattle.show.specs.declared.refusal.Refusal.{Refusal}
 use Rattle.show.specs.declared.Show.{Show}
 use Rattle.show.specs.Limits.{ShowWithin, Alike, buffer_most}
 use Rattle.show.specs.Checks.{show_check}
@@ -17,8 +16,7 @@ use Rattle.theory.specs.Shows.{load_of, eased}
 use Rattle.theory.proofs.Lighter.{lighter_augmenting, lighter_good, lighter_accepted}
 use Rattle.theory.proofs.Shows.{alike_back, alike_eased, eased_lighter, tenths_lighter}
 use Rattle.verdict.proofs.Unused.{within_alike}
-use Rattle.reason.specs.declared.Reason.{Reason}
-use Rattle.reason.specs.Answers.{ReasonIs, none, overload, beyond, buffer, outside, loaded_of}
+use Rattle.reason.specs.Answers.{Reasoned, ReasonIs, none, overload, beyond, buffer, outside, loaded_of}
 use Rattle.reason.proofs.Answers.{load_refused, load_told}
 
 -- Two loads of which neither is harder than the other.
@@ -77,7 +75,7 @@ module _ (s t : Show) (a : Alike s t) where
   lighter_from : ShowWithin s → Lighter (load_of t) (load_of s) (λ i. i)
   lighter_from w = eased_lighter t s (alike_eased t s (alike_back s t a) (within_alike s t a w))
 
-  pub alike_reason : (r : (Result (Option Reason) Refusal)) → ReasonIs s r → ReasonIs t r
+  pub alike_reason : (r : Reasoned) → ReasonIs s r → ReasonIs t r
   alike_reason r (none w x) = none (within_alike s t a w) (lighter_accepted (load_of t) (load_of s) (λ i. i) (lighter_from w) x)
   alike_reason r (overload w x) = overload (within_alike s t a w) (never_same (load_of s) (load_of t) (lighter_to w) (lighter_from w) x)
   alike_reason r (beyond w x) =

@@ -12,8 +12,12 @@ use Rattle.theory.specs.Shows.{load_of}
 use Rattle.reason.specs.declared.Reason.{Reason}
 use Rattle.reason.specs.declared.Reason.TheVariants as reason
 
+-- What asking for the reason answers: none for an accepted show, one for an 8, or the refusal of a show outside its limits.
+abbrev pub Reasoned : Type 0
+Reasoned = Result (Option Reason) Refusal
+
 -- Within the limits: none of an accepted show; else one of the three. Outside them it is 2, 5, 6 or 7.
-pub data ReasonIs (s : Show) : Result (Option Reason) Refusal → Type 0 where
+pub data ReasonIs (s : Show) : Reasoned → Type 0 where
   none : ShowWithin s → Accepted (load_of s) → ReasonIs s (Ok None)
   overload : ShowWithin s → NeverKeepsUp (load_of s) → ReasonIs s (Ok (Some reason.Overload))
   beyond : ShowWithin s → Beyond (load_of s) buffer_most → ReasonIs s (Ok (Some reason.Beyond))
@@ -30,7 +34,7 @@ unfoldable pub loaded_of : Show → Result ℕ Refusal
 loaded_of s = load_answer (show_check s) (tenths (load_of s))
 
 -- which reason, 0 for none; of a buffer that is too small its session and the size that it needs; or the refusal
-abbrev pub reason_outcome : Result (Option Reason) Refusal → Outcome
+abbrev pub reason_outcome : Reasoned → Outcome
 reason_outcome (Ok None) = granted (pos 0 ∷ [])
 reason_outcome (Ok (Some reason.Overload)) = granted (pos 1 ∷ [])
 reason_outcome (Ok (Some reason.Beyond)) = granted (pos 2 ∷ [])

@@ -140,8 +140,5 @@ pub fn report(file: &[u8], buffer: &mut [u8]) -> Written
         };
     }
     let len = put_text(file, buffer);
-    Written {
-        check: Ok(()),
-        len,
-    }
+    Written { check: Ok(()), len }
 }

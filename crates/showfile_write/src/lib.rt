@@ -75,8 +75,5 @@ pub fn write(show: Show, note: &[u8], buffer: &mut [u8]) -> Written
         return unwritten(why);
     }
     let len = put_file(show, note, buffer);
-    Written {
-        check: Ok(()),
-        len,
-    }
+    Written { check: Ok(()), len }
 }

@@ -1,12 +1,11 @@
 -- The words of each reason. Assumes nothing.
-use Rattle.std.specs.Prelude.{Ok, None, Result, Option}
+use Rattle.std.specs.Prelude.{Ok, None}
 use mathlib.Core.Path.{◌≡◌, sym, ap, ◌∙◌}
 use mathlib.Core.List.{List}
 use Prim.Native.Nat.{ℕ}
-use Rattle.show.specs.declared.refusal.Refusal.{Refusal}
 use Rattle.text.specs.Puts.{Put}
 use Rattle.text.proofs.Puts.{put_as}
-use Rattle.reason.specs.declared.Reason.{Reason}
+use Rattle.reason.specs.Answers.{Reasoned}
 use Rattle.explain.specs.Text.{reason_text}
 use Rattle.explain.proofs.Sizes.{reason_room}
 use Rattle.explain.proofs.put_reason.Goals as goal
@@ -19,5 +18,5 @@ pub returns-in-Ok-None : goal.returns-in-Ok-None
 returns-in-Ok-None c =
     put_as
     (sym
-    (ap (λ (x : Result (Option Reason) Refusal). reason_text x c.args.tenths)
+    (ap (λ (x : Reasoned). reason_text x c.args.tenths)
     (c.in-Ok-None.is ∙ ap Ok (rw c.in-Ok-None.is at c.in-Ok-None.field-0-is)))) c.put_load.ensures
