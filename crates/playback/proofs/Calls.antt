@@ -1,38 +1,36 @@
 -- What each call answers, case by case. Assumes nothing.
 use Rattle.std.specs.Prelude.{Ok, Err, Some, None, Option}
 use Prim.Native.Nat.{ℕ, ◌≤◌, ◌<◌}
-use mathlib.Core.Path.{◌≡◌, sym, ap, subst, ◌∙◌}
+use mathlib.Core.Path.{◌≡◌, refl, sym, ap, subst, ◌∙◌}
 use native.Mathlib.Decide.{dec_le, dec_lt}
 use native.Mathlib.Omega.{arith}
 use mathlib.Core.List.{List}
 use lib.ListN.{length, set}
+use Rattle.std.proofs.lemmas.List.{set-get_or}
 use Rattle.show.specs.Outcomes.{Check}
-use Rattle.show.specs.declared.refusal.Refusal.{Refusal}
 use Rattle.show.specs.declared.refusal.Refusal.TheVariants as refusal
-use Rattle.show.proofs.Checks.{unless_kept, unless_broken, first_refused, first_within}
+use Rattle.show.proofs.Checks.{unless_kept, first_within}
 use Rattle.state.specs.declared.State.{State}
+use Rattle.state.specs.State.{no_state, drawn}
 use Rattle.run.specs.declared.Run.{Run}
 use Rattle.run.specs.Run.{span_most, playing, state_at, clip_at, left_at, PutAt, with_states, with_cycle}
+use Rattle.run.specs.Answers.{moved}
 use Rattle.run.specs.Seats.{Seated}
 use Rattle.run.specs.Sound.{SoundRun}
-use Rattle.run.specs.Steps.{passed, drawn_at, stored, landed}
+use Rattle.run.specs.Steps.{states_after, passed, drawn_at, stored, landed}
 use Rattle.run.proofs.Steps.{passed_sound, read_below}
 use Rattle.run.proofs.Seats.{sound_seated}
 use Rattle.run.proofs.Answered.{damaged_first, sound_then}
 use Rattle.player.specs.declared.Drawn.{Drawn}
-use Rattle.player.specs.Answers.{drawn_of}
+use Rattle.player.specs.Answers.{take_check as players_check, drawn_by, drawn_of}
 use Rattle.player.proofs.Takes.{take_sound}
 use Rattle.run.proofs.Answered.{granted, refused, moved_refused, moved_granted}
-use Rattle.player.proofs.Laws.{take_answers, granted_draws}
+use Rattle.player.proofs.Laws.{take_answers}
 use Rattle.run.specs.declared.Moved.{Moved}
 use Rattle.playback.specs.Answers.{span_check, pass_check, pass_of, take_check, take_of}
 use Rattle.playback.specs.Answers.{busy_check, finish_check, landed_for, finish_of}
-use Rattle.playback.specs.Parts.{clocks_after, place_after, counted_off}
-use Rattle.playback.proofs.Clocks.{advanced_run}
+use Rattle.playback.specs.Parts.{place_after, counted_off}
 use Rattle.playback.proofs.Cycles.{counts_off}
-
-long : (d : ℕ) → span_most < d → span_check d ≡ Err refusal.TooLong
-long d l = unless_broken (dec_le d span_most) refusal.TooLong (λ g. let f : ⊥ = omega arith in f)
 
 short : (d : ℕ) → d ≤ span_most → span_check d ≡ Ok tt
 short d l = unless_kept (dec_le d span_most) refusal.TooLong l
@@ -45,10 +43,6 @@ module _ (r : Run) (d : ℕ) where
   pass_damaged n = moved_refused _ r _ refusal.Damaged (damaged_first r _ n)
 
   module _ (s : SoundRun r) where
-    pub pass_long : span_most < d → refused r refusal.TooLong ≡ pass_of r d
-    unfolding pass_of pass_check
-    pass_long l = moved_refused _ r _ refusal.TooLong (sound_then r _ s ∙ long d l)
-
     pub pass_granted : (q : Run) → d ≤ span_most → q ≡ passed r d → granted q ≡ pass_of r d
     unfolding pass_of pass_check
     pass_granted q l e = moved_granted _ r _ q (sound_then r _ s ∙ short d l) e
@@ -61,12 +55,6 @@ module _ (r : Run) (i n : ℕ) where
   take_damaged b = moved_refused _ r _ refusal.Damaged (damaged_first r _ b)
 
   module _ (s : SoundRun r) where
-    pub take_nobody : playing r ≤ i → refused r refusal.NoSession ≡ take_of r i n
-    unfolding take_of take_check
-    take_nobody l =
-        moved_refused _ r _ refusal.NoSession
-        (sound_then r _ s ∙ first_refused _ _ (unless_broken (dec_lt i (playing r)) refusal.NoSession (λ g. let f : ⊥ = omega arith in f)))
-
     module _ (l : i < playing r) (d : Drawn) (e : d ≡ drawn_of (state_at r i) (clip_at r i) r.started n) where
       -- Of a session that plays, the player's answer counts.
       pub take_answered : take_check r i n ≡ d.check
@@ -76,18 +64,27 @@ module _ (r : Run) (i n : ℕ) where
           ∙ sym (take_sound _ _ _ n (s.states i l)) ∙ sym (take_answers (state_at r i) (clip_at r i) r.started n)
           ∙ ap (λ (x : Drawn). x.check) (sym e)
 
-      pub take_handed : (w : Refusal) → d.check ≡ Err w → ◌≡◌ {A = Moved} (record { check = d.check; run = r }) (take_of r i n)
-      unfolding take_of
-      take_handed w f = ap (λ (k : Check). record { check = k; run = r }) f ∙ moved_refused _ r _ w (take_answered ∙ f)
-
-      pub take_granted : d.check ≡ Ok tt → granted (with_states r (set r.states i d.state)) ≡ take_of r i n
-      unfolding take_of drawn_at
-      take_granted f =
-          moved_granted _ r _ _ (take_answered ∙ f)
-          (ap (λ (x : State). with_states r (set r.states i x))
-          (ap (λ (x : Drawn). x.state) e ∙ granted_draws _ _ _ n (ap (λ (x : Drawn). x.check) (sym e) ∙ f)))
+      -- Granted, the state has moved on; refused, it is put back as it was.
+      pub take_next : ◌≡◌ {A = Moved} (record { check = d.check; run = with_states r (set r.states i d.state) }) (take_of r i n)
+      unfolding take_of drawn_at drawn_of
+      take_next =
+          ap (λ (x : Drawn). record { check = x.check; run = with_states r (set r.states i x.state) }) e
+          ∙ by_check (players_check r.started (clip_at r i) (state_at r i) n)
+          ∙ ap (λ (k : Check). moved k r (drawn_at r i n))
+          (sym (take_answers (state_at r i) (clip_at r i) r.started n) ∙ ap (λ (x : Drawn). x.check) (sym e) ∙ sym take_answered)
+        where
+          by_check :
+              (k : Check) →
+              (let x = drawn_by k (state_at r i) (drawn n (state_at r i)) in
+              ◌≡◌ {A = Moved} (record { check = x.check; run = with_states r (set r.states i x.state) }) (moved k r (drawn_at r i n)))
+          by_check (Ok tt) = refl
+          by_check (Err w) = ap (λ (l : List State). record { check = Err w; run = with_states r l }) (set-get_or r.states i no_state)
 
 -- ---- finish
+
+advanced : (r : Run) (d : ℕ) (l : List State) → l ≡ states_after r.started r d → with_states r l ≡ passed r d
+unfolding passed
+advanced r d l e = ap (with_states r) e
 
 module _ (r : Run) (d : ℕ) where
   pub finish_damaged : (SoundRun r → ⊥) → refused r refusal.Damaged ≡ finish_of r d
@@ -95,10 +92,6 @@ module _ (r : Run) (d : ℕ) where
   finish_damaged n = moved_refused _ r _ refusal.Damaged (damaged_first r _ n)
 
   module _ (s : SoundRun r) where
-    pub finish_long : span_most < d → refused r refusal.TooLong ≡ finish_of r d
-    unfolding finish_of finish_check
-    finish_long l = moved_refused _ r _ refusal.TooLong (sound_then r _ s ∙ first_refused _ _ (long d l))
-
     module _ (l : d ≤ span_most) where
       pub finish_nothing : r.underway ≡ None → refused r refusal.NothingUnderway ≡ finish_of r d
       unfolding finish_of finish_check
@@ -114,12 +107,12 @@ module _ (r : Run) (d : ℕ) where
 
       -- the same from its parts: the states after d µs, the place and what is left
       pub finish_counted :
-          (i : ℕ) (l : List State) (p fresh n : ℕ) → r.underway ≡ Some i → l ≡ clocks_after r.started r.show d r.states →
+          (i : ℕ) (l : List State) (p fresh n : ℕ) → r.underway ≡ Some i → l ≡ states_after r.started r d →
           p ≡ place_after r.place r.left (playing r) → fresh ≡ left_at r p → n ≡ counted_off r.left fresh →
           granted (with_cycle (stored (with_states r l) i) p n None) ≡ finish_of r d
       unfolding landed
       finish_counted i l p fresh n e f g k h =
-          finish_granted i (with_states r l) _ e (advanced_run r d l f) (counts_off (stored (with_states r l) i) p g n (h ∙ ap (counted_off r.left) k))
+          finish_granted i (with_states r l) _ e (advanced r d l f) (counts_off (stored (with_states r l) i) p g n (h ∙ ap (counted_off r.left) k))
 
 -- A session under way is one of sixteen, and the cycle is somewhere.
 module _ (r : Run) (s : SoundRun r) (i : ℕ) (e : r.underway ≡ Some i) where
@@ -140,7 +133,7 @@ passed_reads r d i q n s e f =
 -- Its block keeps to the limit on P.
 pub advanced_put :
     (r : Run) (d i : ℕ) (l : List State) → length r.states ≡ 16 → SoundRun r → r.underway ≡ Some i →
-    l ≡ clocks_after r.started r.show d r.states → PutAt (with_states r l) i
+    l ≡ states_after r.started r d → PutAt (with_states r l) i
 advanced_put r d i l n s e f =
-    let p = passed_reads r d i (with_states r l) n s e (advanced_run r d l f) in
+    let p = passed_reads r d i (with_states r l) n s e (advanced r d l f) in
     (p.0.cycle.underway i p.1).put

@@ -1,4 +1,3 @@
 pub mod Cycles
-pub mod Clocks
 pub mod Calls
 pub mod Laws

@@ -8,21 +8,15 @@ pub(crate) fn place_after(place: usize, left: u32, playing: usize) -> usize
     ensures { result ≡ place_after place left playing }
 {
     if 1 < left {
-        return place;
+        place
+    } else {
+        (place + 1) % playing
     }
-    let next = place + 1;
-    if next < playing {
-        return next;
-    }
-    0
 }
 
 // One block fewer is left; at none left the next operation's.
 pub(crate) fn count_off(left: u32, fresh: u32) -> u32
     ensures { result ≡ counted_off left fresh }
 {
-    if 1 < left {
-        return left - 1;
-    }
-    fresh
+    if 1 < left { left - 1 } else { fresh }
 }

@@ -7,14 +7,14 @@ mod cycle;
 ghost use Rattle.std.specs.Prelude.{◌≡◌, ◌*◌, ◌≤◌};
 ghost use Rattle.state.specs.State.{put_most, ticked, filled};
 ghost use Rattle.run.specs.Run.{span_most};
+ghost use Rattle.run.specs.Sound.{SoundRun};
+ghost use Rattle.run.specs.Steps.{states_after};
 ghost use Rattle.playback.specs.Answers.{pass_of, take_of, finish_of};
-ghost use Rattle.playback.specs.Parts.{Clocked, clocks_after};
 
 use crate::cycle::{count_off, place_after};
 use player::take_from;
 use run::{Moved, Run, left_in};
 use run_test::{Test, test_run};
-use show::Show;
 use show::refusal::Refusal;
 use state::State;
 
@@ -24,83 +24,73 @@ fn tick(rate: u32, d: u64, state: State) -> State
     requires d_le_span_most { d ≤ span_most }
     ensures { result ≡ ticked rate d state }
 {
-    let most = state.taken * 1_000_000;
-    let clock = state.clock + rate as u64 * d;
-    let mut next = state;
-    if clock <= most {
-        next.clock = clock;
-    } else {
-        next.clock = most;
+    let clock = state.clock + u64::from(rate) * d;
+    State {
+        clock: clock.min(state.taken * 1_000_000),
+        ..state
     }
-    next
 }
 
-// The clocks after d µs. Of the run only the parts that they need, as the whole would be copied.
-fn advance(show: Show, mut states: [State; 16], started: bool, d: u64) -> [State; 16]
-    requires clocked { Clocked show.playing states }
+// The states after d µs.
+fn advance(run: &Run, d: u64) -> [State; 16]
+    requires sound { SoundRun run.now }
     requires d_le_span_most { d ≤ span_most }
-    ensures { result ≡ clocks_after started show d states }
+    ensures { result ≡ states_after run.now.started run.now d }
 {
-    if !started {
-        return states;
-    }
-    let mut i: usize = 0;
-    while i < show.playing {
-        let session = show.sessions[i];
-        states[i] = tick(session.rate, d, states[i]);
-        i += 1;
+    let mut states = run.states;
+    if run.started {
+        for i in 0..run.show.playing {
+            states[i] = tick(run.show.sessions[i].rate, d, states[i]);
+        }
     }
     states
 }
 
 // Time goes by, d µs: 19, 11.
+#[tactic(auto, unfolding(crate::specs::Answers::pass_of, crate::specs::Answers::pass_check, run::specs::Steps::passed))]
 pub fn pass(mut run: Run, d: u64) -> Moved
     ensures { result ≡ pass_of run d }
 {
+    let refused = |why| Moved {
+        check: Err(why),
+        run,
+    };
     let Test::Sound = test_run(run) else {
-        return Moved {
-            check: Err(Refusal::Damaged),
-            run,
-        };
+        return refused(Refusal::Damaged);
     };
     if Run::SPAN_MOST < d {
-        return Moved {
-            check: Err(Refusal::TooLong),
-            run,
-        };
+        return refused(Refusal::TooLong);
     }
-    let show = run.show;
-    let states = run.states;
-    let next = advance(show, states, run.started, d);
-    run.states = next;
+    run.states = advance(&run, d);
     Moved { check: Ok(()), run }
 }
 
 // A player takes n bytes of a session: 19, 9, 12, 10.
+#[tactic(auto, unfolding(crate::specs::Answers::take_of, crate::specs::Answers::take_check, run::specs::Steps::drawn_at))]
 pub fn take(mut run: Run, session: usize, n: u64) -> Moved
     ensures { result ≡ take_of run session n }
 {
+    let refused = |why| Moved {
+        check: Err(why),
+        run,
+    };
     let Test::Sound = test_run(run) else {
-        return Moved {
-            check: Err(Refusal::Damaged),
-            run,
-        };
+        return refused(Refusal::Damaged);
     };
     if run.show.playing <= session {
-        return Moved {
-            check: Err(Refusal::NoSession),
-            run,
-        };
+        return refused(Refusal::NoSession);
     }
-    let show = run.show;
-    let drawn = take_from(run.states[session], show.sessions[session], run.started, n);
-    let check = drawn.check;
-    let Ok(()) = check else {
-        return Moved { check, run };
-    };
-    let state = drawn.state;
-    run.states[session] = state;
-    Moved { check: Ok(()), run }
+    let drawn = take_from(
+        run.states[session],
+        run.show.sessions[session],
+        run.started,
+        n,
+    );
+    run.states[session] = drawn.state;
+    Moved {
+        check: drawn.check,
+        run,
+    }
 }
 
 // A block more is put.
@@ -108,52 +98,42 @@ fn fill(state: State, block: u32) -> State
     requires { state.put ≤ put_most }
     ensures { result ≡ filled block state }
 {
-    let mut next = state;
-    next.put += block as u64;
-    next
+    State {
+        put: state.put + u64::from(block),
+        ..state
+    }
 }
 
 // The read under way has come, after d µs: 19, 11, 17.
+#[tactic(auto, unfolding(crate::specs::Answers::finish_of, crate::specs::Answers::finish_check))]
 pub fn finish(run: Run, d: u64) -> Moved
     ensures { result ≡ finish_of run d }
 {
+    let refused = |why| Moved {
+        check: Err(why),
+        run,
+    };
     let Test::Sound = test_run(run) else {
-        return Moved {
-            check: Err(Refusal::Damaged),
-            run,
-        };
+        return refused(Refusal::Damaged);
     };
     if Run::SPAN_MOST < d {
-        return Moved {
-            check: Err(Refusal::TooLong),
-            run,
-        };
+        return refused(Refusal::TooLong);
     }
-    let underway = run.underway;
-    let Some(session) = underway else {
-        return Moved {
-            check: Err(Refusal::NothingUnderway),
-            run,
-        };
+    let Some(session) = run.underway else {
+        return refused(Refusal::NothingUnderway);
     };
-    let show = run.show;
-    let counts = run.counts;
-    let order = run.order;
-    let was = run.states;
-    let mut states = advance(show, was, run.started, d);
-    states[session] = fill(states[session], show.drive.block);
-    let place = place_after(run.place, run.left, show.playing);
+    let mut states = advance(&run, d);
+    states[session] = fill(states[session], run.show.drive.block);
+    let place = place_after(run.place, run.left, run.show.playing);
+    let left = count_off(run.left, left_in(run.counts, run.order, place));
     Moved {
         check: Ok(()),
         run: Run {
-            show,
-            counts,
             states,
-            order,
             place,
-            left: count_off(run.left, left_in(counts, order, place)),
+            left,
             underway: None,
-            started: run.started,
+            ..run
         },
     }
 }

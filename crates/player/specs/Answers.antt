@@ -1,5 +1,5 @@
 -- What a take answers, on one session's state: docs/RULES.md, section 10.
-use Rattle.std.specs.Prelude.{ℕ, ◌-◌, Bool, Ok, Err, true}
+use Rattle.std.specs.Prelude.{ℕ, ◌-◌, Bool, Ok, Err}
 use Rattle.std.proofs.Math.Decide.{dec_le}
 use Rattle.show.specs.Outcomes.{Check}
 use Rattle.show.specs.declared.Session.{Session}

@@ -9,6 +9,7 @@ use show::refusal::Refusal;
 use state::State;
 
 // What a take answers, and the state after it: the next one, or the one that was given.
+// A struct and no Result: theorem HandsBack (crates/promises/specs/Runs.antt) says which state stands beside a refusal.
 #[derive(Clone, Copy)]
 pub struct Drawn {
     pub check: Result<(), Refusal>,
@@ -19,39 +20,25 @@ pub struct Drawn {
 pub fn take_from(state: State, session: Session, started: bool, n: u64) -> Drawn
     ensures { result ≡ drawn_of state session started n }
 {
-    if !state.within(session, started) {
-        return Drawn {
-            check: Err(Refusal::Damaged),
-            state,
-        };
-    }
-    if !started {
-        return Drawn {
-            check: Err(Refusal::NotStarted),
-            state,
-        };
-    }
-    if state.put - state.taken < n {
-        return Drawn {
-            check: Err(Refusal::TooMuch),
-            state,
-        };
-    }
-    let mut next = state;
-    next.taken += n;
-    Drawn {
-        check: Ok(()),
-        state: next,
-    }
+    take_lent(state, session, started, n)
 }
 
 // The same on a state that the player lends.
+#[tactic(auto, unfolding(crate::specs::Answers::take_check, crate::specs::Answers::drawn_of))]
 pub fn take(state: &mut State, session: Session, started: bool, n: u64) -> Result<(), Refusal>
     ensures { (result ≡ (drawn_of state.old session started n).check) × (state.new ≡ (drawn_of state.old session started n).state) }
 {
-    let drawn = take_from(*state, session, started, n);
-    *state = drawn.state;
-    drawn.check
+    if !state.within(session, started) {
+        return Err(Refusal::Damaged);
+    }
+    if !started {
+        return Err(Refusal::NotStarted);
+    }
+    if state.put - state.taken < n {
+        return Err(Refusal::TooMuch);
+    }
+    state.taken += n;
+    Ok(())
 }
 
 // For a caller that has nothing to lend: plain parameters.

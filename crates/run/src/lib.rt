@@ -2,12 +2,11 @@
 #![tactic(auto)]
 
 ghost use Rattle.std.specs.Prelude.{◌≡◌, ◌≤◌};
-ghost use Rattle.state.specs.State.{first_state};
 ghost use Rattle.run.specs.Run.{left_in, with_cycle};
-ghost use Rattle.run.specs.Opening.{OpenIs, table_order, first_states, first_run, no_run};
+ghost use Rattle.run.specs.Opening.{OpenIs, table_order, first_run, no_run};
 
+use show::Show;
 use show::refusal::Refusal;
-use show::{Session, Show};
 use state::State;
 use verdict::decide;
 
@@ -33,24 +32,17 @@ impl Run {
     pub fn with_cycle(self, place: usize, left: u32, underway: Option<usize>) -> Run
         ensures { result ≡ with_cycle self place left underway }
     {
-        let show = self.show;
-        let counts = self.counts;
-        let states = self.states;
-        let order = self.order;
         Run {
-            show,
-            counts,
-            states,
-            order,
             place,
             left,
             underway,
-            started: self.started,
+            ..self
         }
     }
 }
 
 // What a call on a run answers, and the run after it: the next one, or the one that was given.
+// A struct and no Result: theorem HandsBack (crates/promises/specs/Runs.antt) says which run stands beside a refusal.
 #[derive(Clone, Copy)]
 pub struct Moved {
     pub check: Result<(), Refusal>,
@@ -58,6 +50,7 @@ pub struct Moved {
 }
 
 // A run that can begin, or why there is none; refused, the run is zeros.
+// A struct and no Result: theorem Empty (crates/promises/specs/Refusals.antt) says which run stands beside a refusal.
 #[derive(Clone, Copy)]
 pub struct Opened {
     pub check: Result<(), Refusal>,
@@ -66,17 +59,12 @@ pub struct Opened {
 
 // What is left of a count when an operation begins at a place of an order. Past the last place stands session 0; a number that is no
 // session's has no count, and 0 is left.
+#[tactic(auto, unfolding(crate::specs::Run::left_in))]
 pub fn left_in(counts: [u32; 16], order: [u32; 16], place: usize) -> u32
     ensures { result ≡ left_in counts order place }
 {
-    if 16 <= place {
-        return counts[0];
-    }
-    let seat = order[place] as usize;
-    if 16 <= seat {
-        return 0;
-    }
-    counts[seat]
+    let seat = order.get(place).copied().unwrap_or(0);
+    counts.get(seat as usize).copied().unwrap_or(0)
 }
 
 // The run of an accepted show: 2, 5, 6, 7, 8.
@@ -84,64 +72,37 @@ pub fn open(show: Show) -> Opened
     ensures { OpenIs show result }
 {
     let decision = decide(show);
-    let verdict = decision.verdict;
-    if let Err(why) = verdict {
+    if let Err(why) = decision.verdict {
         return Opened {
             check: Err(why),
             run: no_run(),
         };
     }
-    let counts = decision.counts;
     Opened {
         check: Ok(()),
-        run: first_run(show, counts),
+        run: first_run(show, decision.counts),
     }
 }
 
-// A session begins empty, its clock at 0.
-fn first_state(session: Session) -> State
-    ensures { result ≡ first_state session }
-{
-    State {
-        put: 0,
-        taken: 0,
-        clock: 0,
-    }
-}
-
-fn first_states(show: Show) -> [State; 16]
-    requires { show.playing ≤ 16 }
-    ensures { result ≡ first_states show }
-{
-    let none = State {
-        put: 0,
-        taken: 0,
-        clock: 0,
-    };
-    let mut states: [State; 16] = [none; 16];
-    let mut i: usize = 0;
-    while i < show.playing {
-        states[i] = first_state(show.sessions[i]);
-        i += 1;
-    }
-    states
-}
-
-// Each session in its first state, nothing under way, and an operation to begin at the first place.
+// Each session empty and its clock at 0, nothing under way, and an operation to begin at the first place.
+#[tactic(auto, using(crate::proofs::Begins::all_begin), unfolding(crate::specs::Opening::first_run))]
 fn first_run(show: Show, counts: [u32; 16]) -> Run
     requires { show.playing ≤ 16 }
     ensures { result ≡ first_run show counts }
 {
-    let states = first_states(show);
     let order = table_order(show.playing);
-    let left = left_in(counts, order, 0);
+    let empty = State {
+        put: 0,
+        taken: 0,
+        clock: 0,
+    };
     Run {
         show,
         counts,
-        states,
+        states: [empty; 16],
         order,
         place: 0,
-        left,
+        left: left_in(counts, order, 0),
         underway: None,
         started: false,
     }
@@ -151,18 +112,16 @@ fn table_order(playing: usize) -> [u32; 16]
     requires { playing ≤ 16 }
     ensures { result ≡ table_order playing }
 {
-    let mut order: [u32; 16] = [0; 16];
-    let mut i: usize = 0;
-    while i < playing {
+    let mut order = [0; 16];
+    for i in 0..playing {
         order[i] = i as u32;
-        i += 1;
     }
     order
 }
 
+#[tactic(auto, unfolding(crate::specs::Opening::no_run))]
 fn no_run() -> Run
     ensures { result ≡ no_run }
 {
-    let show = Show::nothing();
-    first_run(show, [0; 16])
+    first_run(Show::nothing(), [0; 16])
 }

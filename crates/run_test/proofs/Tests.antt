@@ -1,13 +1,11 @@
 -- The test of a run record, part by part. Assumes nothing.
-use Rattle.std.specs.Prelude.{Ok, Err, Some, Result, Option}
+use Rattle.std.specs.Prelude.{Ok, Err, Result}
 use Rattle.std.specs.Result.{result_unwrap_or}
-use Prim.Native.Nat.{ℕ, ◌+◌, ◌≤◌, ◌<◌}
+use Prim.Native.Nat.{ℕ}
 use mathlib.Core.Path.{◌≡◌, refl, sym, ap, ◌∙◌, subst}
 use mathlib.Core.Bool.{Bool, true, false}
 use mathlib.Core.List.{List}
 use mathlib.Core.Logic.{if_pos, if_neg}
-use native.Mathlib.Omega.{arith}
-use borrow.Author.Count.{below_more}
 use Rattle.show.specs.declared.Show.{Show}
 use Rattle.show.specs.declared.refusal.Refusal.{Refusal}
 use Rattle.show.specs.Limits.{Tells, ShowWithin}
@@ -17,79 +15,42 @@ use Rattle.trial.specs.declared.Trial.{Trial}
 use Rattle.verdict.specs.Answers.{set_of}
 use Rattle.trial.specs.Answers.{TrialIs, holds, fails, untried}
 use Rattle.verdict.proofs.Once.{within_outside}
-use Rattle.show.specs.declared.Session.{Session}
 use Rattle.run.specs.declared.Run.{Run}
-use Rattle.state.specs.declared.State.{State}
-use Rattle.state.specs.State.{Room, put_most, StateSound}
 use Rattle.run.specs.Run.{playing, clip_at, state_at, seat_at}
-use Rattle.run.proofs.Steps.{nothing_read}
 use Rattle.run.specs.Sound.{StatesSound, NamesEach, MayRead, CycleSound, SoundRun}
 use Rattle.run.specs.Decisions.{sound?}
 use Rattle.run_test.specs.declared.Test.{Test}
 use Rattle.run_test.specs.declared.Test.TheVariants as test
 use Rattle.run_test.specs.Answers.{test_of}
-use Rattle.run_test.specs.Steps.{test_if, AtRest, AtPlace, UnderwayAt}
+use Rattle.run_test.specs.Steps.{test_if, AtPlace, UnderwayAt}
 
 -- ---- the counts
-
-fails_holds : {X : Type 0} → ◌≡◌ {A = Result Bool Refusal} (Ok false) (Ok true) → X
-fails_holds e = let z : ◌≡◌ {A = ℕ} 0 1 = cc in absurd (let f : ⊥ = omega arith in f)
 
 -- by what an answer comes to where a refusal is no
 pub holds_told : (a : Result Bool Refusal) → result_unwrap_or a false ≡ true → a ≡ Ok true
 holds_told (Ok true) e = refl
-holds_told (Ok false) e = let z : ◌≡◌ {A = ℕ} 0 1 = cc in absurd (let f : ⊥ = omega arith in f)
-holds_told (Err w) e = let z : ◌≡◌ {A = ℕ} 0 1 = cc in absurd (let f : ⊥ = omega arith in f)
+holds_told (Ok false) e = cc
+holds_told (Err w) e = cc
 
 pub fails_told : (a : Result Bool Refusal) → result_unwrap_or a false ≡ false → a ≡ Ok true → ⊥
-fails_told a e h = let g : true ≡ false = sym (ap (λ (x : Result Bool Refusal). result_unwrap_or x false) h) ∙ e in let z : ◌≡◌ {A = ℕ} 0 1 = cc in omega arith
+fails_told a e h = cc (ap (λ (x : Result Bool Refusal). result_unwrap_or x false) h)
 
 module _ (s : Show) (m : List ℕ) where
   pub trial_good : (t : Trial) → TrialIs s m t → t.answer ≡ Ok true → ShowWithin s × Good (load_of s) (set_of m)
   trial_good t (holds w g) e = (w, g)
-  trial_good t (fails w n) e = fails_holds e
-  trial_good t (untried w out) e = let z : ◌≡◌ {A = ℕ} 0 1 = cc in absurd (let f : ⊥ = omega arith in f)
+  trial_good t (fails w n) e = cc
+  trial_good t (untried w out) e = cc
 
   pub trial_bad : (t : Trial) → TrialIs s m t → (t.answer ≡ Ok true → ⊥) → ShowWithin s → Good (load_of s) (set_of m) → ⊥
   trial_bad t (holds w g) n v k = n refl
   trial_bad t (fails w b) n v k = b k
   trial_bad t (untried w out) n v k = within_outside s w v out
 
--- ---- the states
-
-pub record StatesTo (r : Run) (i : ℕ) : Type 0 where
-  pub inside : i ≤ playing r
-  pub sound : (k : ℕ) → k < i → StateSound r.started (clip_at r k) (state_at r k)
-
-module _ (r : Run) where
-  pub states_none : StatesTo r 0
-  states_none = record { inside = omega arith; sound = λ k l. absurd (let f : ⊥ = omega arith in f) }
-
-  pub states_more : (i : ℕ) → StatesTo r i → i < playing r → StateSound r.started (clip_at r i) (state_at r i) → StatesTo r (i + 1)
-  states_more i h l g = record { inside = omega arith; sound = below_more _ i h.sound g }
-
-  pub states_all : (i : ℕ) → StatesTo r i → playing r ≤ i → StatesSound r
-  states_all i h l k m = h.sound k (omega arith)
-
 -- ---- the cycle
-
-module _ (r : Run) (nobody : playing r ≡ 0) where
-  pub cycle_rests : (b : Bool) → Tells b (AtRest r.place r.left r.underway) → Tells b (CycleSound r)
-  cycle_rests true h =
-      record {
-        empty = λ f. record { place = h.first; left = h.none; underway = h.underway };
-        turning = λ l. absurd (let f : ⊥ = omega arith in f);
-        underway = λ i f. nothing_read (sym h.underway ∙ f);
-      }
-  cycle_rests false h =
-      λ c. (let e = c.empty nobody in h (record { first = e.place; none = e.left; underway = e.underway }))
 
 module _ (r : Run) (some : playing r ≡ 0 → ⊥) where
   abbrev Placed : Type 0
   Placed = AtPlace r.order r.counts (playing r) r.place r.left
-
-  pub cycle_nowhere : (Placed → ⊥) → CycleSound r → ⊥
-  cycle_nowhere none c = let t = c.turning (omega arith) in none (record { inside = t.place; within = t.left })
 
   pub cycle_reads :
       Placed → (b : Bool) →
@@ -106,15 +67,6 @@ module _ (r : Run) (some : playing r ≡ 0 → ⊥) where
       λ c. h (λ i e. (let m = c.underway i e in
       let at = subst (MayRead r) m.seat m in
       record { same = m.seat; room = at.room; put = at.put }))
-
--- ---- the read under way
-
-pub read_told :
-    (u : (Option ℕ)) (seat : ℕ) (s : State) (x : Session) (A i : ℕ) → u ≡ Some i → i ≡ seat → (b : Bool) →
-    Tells b (Room A x s × (s.put + A ≤ put_most)) → Tells b (UnderwayAt u seat s x A)
-read_told u seat s x A i e f true h =
-    λ j g. record { same = (let k : Some i ≡ Some j = sym e ∙ g in let l : i ≡ j = cc in sym l ∙ f); room = h.0; put = h.1 }
-read_told u seat s x A i e f false h = λ g. (let m = g i e in h (m.room, m.put))
 
 -- ---- the answer
 
@@ -133,7 +85,7 @@ test_cycle r w g s o true h = test_sound r (record { within = w; counts = g; sta
 test_cycle r w g s o false h = test_damaged r (λ t. h t.cycle)
 
 sound_damaged : {X : Type 0} → test.Sound ≡ test.Damaged → X
-sound_damaged e = let z : ◌≡◌ {A = ℕ} 0 1 = cc in absurd (let f : ⊥ = omega arith in f)
+sound_damaged e = absurd (cc)
 
 -- what a call goes on from
 pub tested_sound : (r : Run) (t : Test) → t ≡ test_of r → t ≡ test.Sound → SoundRun r

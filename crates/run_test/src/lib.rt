@@ -13,7 +13,7 @@ use show::Session;
 use state::State;
 use trial::tried;
 
-// What the test of a record tells.
+// What the test of a record tells. An enum and no bool: the rule of docs/DECISIONS.md, "Forms", has each call take it apart by `let .. else`.
 #[derive(Clone, Copy)]
 pub enum Test {
     Sound,
@@ -25,49 +25,38 @@ pub enum Test {
 pub fn test_run(run: Run) -> Test
     ensures { result ≡ test_of run }
 {
-    let show = run.show;
-    let counts = run.counts;
-    let trial = tried(show, counts);
-    let answer = trial.answer;
-    if !answer.unwrap_or(false) {
+    let playing = run.show.playing;
+    if !tried(run.show, run.counts).answer.unwrap_or(false) {
         return Test::Damaged;
     }
-    let mut i: usize = 0;
-    while i < show.playing {
-        if !run.states[i].within(show.sessions[i], run.started) {
+    for i in 0..playing {
+        if !run.states[i].within(run.show.sessions[i], run.started) {
             return Test::Damaged;
         }
-        i += 1;
     }
-    let order = run.order;
-    if !names_each(order, show.playing) {
+    if !names_each(run.order, playing) {
         return Test::Damaged;
     }
-    let underway = run.underway;
-    if show.playing == 0 {
-        return told(rests(run.place, run.left, underway));
+    if playing == 0 {
+        return told(rests(run.place, run.left, run.underway));
     }
-    if !turns(order, counts, show.playing, run.place, run.left) {
+    if !turns(run.order, run.counts, playing, run.place, run.left) {
         return Test::Damaged;
     }
-    let place = run.place;
-    let seat = order[place] as usize;
+    let seat = run.order[run.place] as usize;
     told(may_read(
-        underway,
+        run.underway,
         seat,
         run.states[seat],
-        show.sessions[seat],
-        show.drive.block,
+        run.show.sessions[seat],
+        run.show.drive.block,
     ))
 }
 
 fn told(sound: bool) -> Test
     ensures { result ≡ test_if sound }
 {
-    if sound {
-        return Test::Sound;
-    }
-    Test::Damaged
+    if sound { Test::Sound } else { Test::Damaged }
 }
 
 // Whether the first places of an order name each of so many sessions once: each is one of them, and none was named before.
@@ -75,18 +64,13 @@ fn names_each(order: [u32; 16], playing: usize) -> bool
     requires { playing ≤ 16 }
     ensures { Tells result (NamesEach order playing) }
 {
-    let mut named: [bool; 16] = [false; 16];
-    let mut k: usize = 0;
-    while k < playing {
-        let session = order[k] as usize;
-        if playing <= session {
-            return false;
-        }
-        if named[session] {
+    let mut named = [false; 16];
+    for session in &order[..playing] {
+        let session = *session as usize;
+        if playing <= session || named[session] {
             return false;
         }
         named[session] = true;
-        k += 1;
     }
     true
 }
@@ -95,16 +79,7 @@ fn names_each(order: [u32; 16], playing: usize) -> bool
 fn rests(place: usize, left: u32, underway: Option<usize>) -> bool
     ensures { Tells result (AtRest place left underway) }
 {
-    if place != 0 {
-        return false;
-    }
-    if left != 0 {
-        return false;
-    }
-    let None = underway else {
-        return false;
-    };
-    true
+    place == 0 && left == 0 && underway.is_none()
 }
 
 // Whether the cycle is at one of its places, and 1 to M of the count there is left, once the order is known to name each session once.
@@ -113,17 +88,7 @@ fn turns(order: [u32; 16], counts: [u32; 16], playing: usize, place: usize, left
     requires names_each { NamesEach order playing }
     ensures { Tells result (AtPlace order counts playing place left) }
 {
-    if playing <= place {
-        return false;
-    }
-    if left < 1 {
-        return false;
-    }
-    let seat = order[place] as usize;
-    if counts[seat] < left {
-        return false;
-    }
-    true
+    place < playing && (1..=counts[order[place] as usize]).contains(&left)
 }
 
 // Whether a read that is under way is one of the session at the place, and may be.
@@ -136,24 +101,15 @@ fn may_read(
 ) -> bool
     ensures { Tells result (UnderwayAt underway seat state session block) }
 {
-    let Some(read) = underway else {
-        return true;
-    };
-    if read != seat {
-        return false;
+    match underway {
+        None => true,
+        Some(read) => read == seat && takes_one(state, session, block),
     }
-    takes_one(state, session, block)
 }
 
 // One more block has room, and keeps to the limit on P.
 fn takes_one(state: State, session: Session, block: u32) -> bool
     ensures { Tells result (Room block session state × (state.put + block ≤ put_most)) }
 {
-    if !state.room(session, block) {
-        return false;
-    }
-    if State::PUT_MOST - (block as u64) < state.put {
-        return false;
-    }
-    true
+    state.room(session, block) && state.put <= State::PUT_MOST - u64::from(block)
 }

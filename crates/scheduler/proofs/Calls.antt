@@ -1,6 +1,6 @@
 -- What choose answers, case by case. Assumes nothing.
-use Rattle.std.specs.Prelude.{Ok, Err, Some, None}
-use Prim.Native.Nat.{ℕ, ◌≤◌, ◌<◌}
+use Rattle.std.specs.Prelude.{Ok, Err, None}
+use Prim.Native.Nat.{◌≤◌, ◌<◌}
 use mathlib.Core.Path.{◌≡◌, sym, ap, ◌∙◌}
 use mathlib.Core.Logic.{if_pos, if_neg}
 use native.Mathlib.Decide.{dec_lt, ℕ_discrete}
@@ -27,18 +27,10 @@ module _ (r : Run) where
   choose_damaged n = by_check (Err refusal.Damaged) (damaged_first r _ n)
 
   module _ (s : SoundRun r) where
-    pub choose_busy : (i : ℕ) → r.underway ≡ Some i → chosen (choice.Refused refusal.ReadUnderway) r ≡ choose_of r
-    unfolding choose_check
-    choose_busy i e = by_check (Err refusal.ReadUnderway) (sound_then r _ s ∙ ap free_check e)
-
     module _ (e : r.underway ≡ None) where
       free : next_of r ≡ choose_of r
       unfolding choose_check
       free = by_check (Ok tt) (sound_then r _ s ∙ ap free_check e)
-
-      pub choose_empty : playing r ≡ 0 → chosen choice.Idle r ≡ choose_of r
-      unfolding next_of
-      choose_empty z = sym (if_pos (ℕ_discrete (playing r) 0) z _ _) ∙ free
 
       module _ (z : playing r ≡ 0 → ⊥) where
         pub choose_idle : (q : Run) → playing r ≤ skipped r → q ≡ idled r → chosen choice.Idle q ≡ choose_of r

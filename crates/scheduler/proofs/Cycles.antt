@@ -1,63 +1,37 @@
 -- Who is skipped, and where choose arrives, as the code finds it. Assumes nothing.
-use Rattle.std.specs.Prelude.{Some}
-use Prim.Native.Nat.{ℕ, zero, suc, ◌+◌, ◌-◌, ◌≤◌, ◌<◌}
-use mathlib.Core.Path.{◌≡◌, refl, sym, ap, ◌∙◌}
-use mathlib.Core.Logic.{if_pos, if_neg}
-use native.Mathlib.Omega.{arith}
-use Rattle.show.specs.declared.refusal.Refusal.TheVariants.{PutLimit}
+use Prim.Native.Nat.{ℕ, ◌+◌, ◌-◌, ◌≤◌, ◌<◌}
+use mathlib.Core.Path.{◌≡◌, sym, ap, ◌∙◌}
 use Rattle.run.specs.declared.Run.{Run}
-use Rattle.run.specs.Run.{playing, seat_at, left_at, onward, RoomAt, PutAt, with_cycle}
-use Rattle.run.specs.Decisions.{room?, put?}
-use Rattle.run.specs.Steps.{first_from, skipped, left_after, begun}
+use Rattle.run.specs.Run.{playing, seat_at, left_at, onward, RoomAt}
+use Rattle.run.specs.Decisions.{room?}
+use Rattle.run.specs.Steps.{first_from, skipped, left_after}
 use Rattle.run.proofs.Searches.{first_hit, first_on, first_none, first_all}
-use Rattle.scheduler.specs.declared.Choice.TheVariants as choice
 use Rattle.scheduler.specs.declared.Chosen.{Chosen}
-use Rattle.scheduler.specs.Answers.{chosen, arrived, arrived_past}
+use Rattle.scheduler.specs.Answers.{arrived, arrived_past}
 
 -- ---- who is skipped
 
 -- The first k have no room.
-pub record SkippedTo (r : Run) (k : ℕ) : Type 0 where
-  pub inside : k ≤ playing r
-  pub rest : skipped r ≡ first_from (λ j. room? r (seat_at r (onward r j))) k (playing r - k)
+abbrev pub SkippedTo : Run → ℕ → Type 0
+SkippedTo r k = skipped r ≡ first_from (λ j. room? r (seat_at r (onward r j))) k (playing r - k)
 
 module _ (r : Run) where
   pub skips_none : SkippedTo r 0
   unfolding skipped
-  skips_none = record { inside = omega arith; rest = sym (first_all _ (playing r)) }
+  skips_none = sym (first_all _ (playing r))
 
   pub skips_more : (k : ℕ) → SkippedTo r k → k < playing r → (RoomAt r (seat_at r (onward r k)) → ⊥) → SkippedTo r (k + 1)
-  skips_more k h l n = record { inside = omega arith; rest = h.rest ∙ first_on _ k (playing r) l n }
+  skips_more k h l n = h ∙ first_on _ k (playing r) l n
 
   pub skips_found : (k : ℕ) → SkippedTo r k → k < playing r → RoomAt r (seat_at r (onward r k)) → k ≡ skipped r
-  skips_found k h l g = sym (h.rest ∙ first_hit _ k (playing r) l g)
+  skips_found k h l g = sym (h ∙ first_hit _ k (playing r) l g)
 
   pub skips_all : (k : ℕ) → SkippedTo r k → playing r ≤ k → k ≡ skipped r
-  skips_all k h l = sym (h.rest ∙ first_none _ k (playing r) l)
+  skips_all k h l = sym (h ∙ first_none _ k (playing r) l)
 
 -- ---- where choose arrives
 
-pub left_kept : (k left fresh : ℕ) → k ≤ 0 → left ≡ left_after k left fresh
-left_kept zero left fresh l = refl
-left_kept (suc k) left fresh l = absurd (let f : ⊥ = omega arith in f)
-
-pub left_fresh : (k left fresh : ℕ) → 0 < k → fresh ≡ left_after k left fresh
-left_fresh zero left fresh l = absurd (let f : ⊥ = omega arith in f)
-left_fresh (suc k) left fresh l = refl
-
 module _ (r : Run) where
-  module _ (place left : ℕ) where
-    abbrev here : ℕ
-    here = seat_at r place
-
-    pub arrives_late : (PutAt r here → ⊥) → chosen (choice.Refused PutLimit) r ≡ arrived r place left
-    unfolding arrived
-    arrives_late n = sym (if_neg (put? r here) n _ _)
-
-    pub arrives : PutAt r here → chosen (choice.Read here) (with_cycle r place left (Some here)) ≡ arrived r place left
-    unfolding arrived begun
-    arrives p = sym (if_pos (put? r here) p _ _)
-
   pub arrives_past :
       (k fresh left : ℕ) (a : Chosen) → fresh ≡ left_at r (onward r k) → left ≡ left_after k r.left fresh →
       a ≡ arrived r (onward r k) left → k ≡ skipped r → a ≡ arrived_past r (skipped r)

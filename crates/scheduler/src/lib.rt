@@ -12,6 +12,7 @@ use run_test::{Test, test_run};
 use show::refusal::Refusal;
 
 // What to read next.
+// An enum of its own with the refusal's enum in its case: a rule of the project (docs/DECISIONS.md, "Forms").
 #[derive(Clone, Copy)]
 pub enum Choice {
     Idle,
@@ -20,6 +21,7 @@ pub enum Choice {
 }
 
 // The choice, and the run after it.
+// A struct and no Result: theorem HandsBack (crates/promises/specs/Runs.antt) says which run stands beside a refusal.
 #[derive(Clone, Copy)]
 pub struct Chosen {
     pub choice: Choice,
@@ -27,39 +29,34 @@ pub struct Chosen {
 }
 
 // The next read, which is then under way, or Idle: 19, 13, 14. The loop over those that are skipped stands here so that it copies no run.
+#[tactic(auto, unfolding(crate::specs::Answers::choose_of, crate::specs::Answers::choose_check, crate::specs::Answers::next_of))]
 pub fn choose(run: Run) -> Chosen
     ensures { result ≡ choose_of run }
 {
+    let refused = |why| Chosen {
+        choice: Choice::Refused(why),
+        run,
+    };
     let Test::Sound = test_run(run) else {
-        return Chosen {
-            choice: Choice::Refused(Refusal::Damaged),
-            run,
-        };
+        return refused(Refusal::Damaged);
     };
-    let underway = run.underway;
-    let None = underway else {
-        return Chosen {
-            choice: Choice::Refused(Refusal::ReadUnderway),
-            run,
-        };
+    let None = run.underway else {
+        return refused(Refusal::ReadUnderway);
     };
-    if run.show.playing == 0 {
+    let playing = run.show.playing;
+    if playing == 0 {
         return Chosen {
             choice: Choice::Idle,
             run,
         };
     }
-    let show = run.show;
-    let playing = show.playing;
-    let mut k: usize = 0;
-    while k < playing {
+    for k in 0..playing {
         let at = (run.place + k) % playing;
         let seat = run.order[at] as usize;
-        if run.states[seat].room(show.sessions[seat], show.drive.block) {
+        if run.states[seat].room(run.show.sessions[seat], run.show.drive.block) {
             let left = left_after(k, run.left, left_in(run.counts, run.order, at));
             return arrive(run, at, left);
         }
-        k += 1;
     }
     Chosen {
         choice: Choice::Idle,

@@ -1,30 +1,15 @@
--- What the test of a state tells, and that each step keeps it sound. Assumes nothing.
-use Prim.Native.Nat.{ℕ, ◌+◌, ◌-◌, ◌*◌, ◌≤◌}
+-- Each step keeps a state sound. Assumes nothing.
+use Prim.Native.Nat.{ℕ, ◌+◌, ◌-◌, ◌≤◌}
 use mathlib.Core.Path.{◌≡◌, sym, ◌∙◌}
 use mathlib.Core.Bool.{Bool, true, false}
 use native.Mathlib.Nat.{min-le_right}
 use native.Mathlib.Omega.{arith}
 use Rattle.show.specs.declared.Session.{Session}
-use Rattle.show.specs.Limits.{Tells}
 use Rattle.state.specs.declared.State.{State}
-use Rattle.state.specs.State.{put_most, Room, Waiting, StateSound, ticked, drawn, filled}
+use Rattle.state.specs.State.{put_most, Room, StateSound, ticked, drawn, filled}
 
 pub true_false : {X : Type 0} → true ≡ false → X
-true_false e = let z : ◌≡◌ {A = ℕ} 0 1 = cc in absurd (let f : ⊥ = omega arith in f)
-
-module _ (started : Bool) (x : Session) (s : State) where
-  module _ (p : s.put ≤ put_most) (t : s.taken ≤ s.put) (h : s.put - s.taken ≤ x.buffer) (k : s.clock ≤ s.taken * 1000000) where
-    state_sound : (started ≡ false → Waiting s) → StateSound started x s
-    state_sound w = record { put = p; taken = t; held = omega arith; clock = k; early = w }
-
-    -- once started nobody waits
-    pub state_started : started ≡ true → StateSound started x s
-    state_started e = state_sound (λ f. true_false (sym e ∙ f))
-
-    -- before the start all hangs on the waiting
-    pub state_waits : started ≡ false → (b : Bool) → Tells b (Waiting s) → Tells b (StateSound started x s)
-    state_waits e true w = state_sound (λ f. w)
-    state_waits e false w = λ y. w (y.early e)
+true_false e = absurd (cc)
 
 -- ---- the steps
 

@@ -21,58 +21,24 @@ impl State {
     pub fn within(self, session: Session, started: bool) -> bool
         ensures { Tells result (StateSound started session self) }
     {
-        if State::PUT_MOST < self.put {
-            return false;
-        }
-        if self.put < self.taken {
-            return false;
-        }
-        if (session.buffer as u64) < self.put - self.taken {
-            return false;
-        }
-        if self.taken * 1_000_000 < self.clock {
-            return false;
-        }
-        if started {
-            return true;
-        }
-        self.waits()
+        self.put <= State::PUT_MOST
+            && self.taken <= self.put
+            && self.put - self.taken <= u64::from(session.buffer)
+            && self.clock <= self.taken * 1_000_000
+            && (started || self.waits())
     }
 
-    // P + A - G is at most B: one more block has room.
+    // P + A - G is at most B: one more block has room. In 128 bits, as a state given by anyone may hold any numbers.
     pub fn room(self, session: Session, block: u32) -> bool
         ensures { Tells result (Room block session self) }
     {
-        let buffer = session.buffer as u64;
-        let block = block as u64;
-        if self.put < self.taken {
-            if block <= buffer {
-                return true;
-            }
-            if self.taken - self.put < block - buffer {
-                return false;
-            }
-            return true;
-        }
-        let held = self.put - self.taken;
-        if buffer < held {
-            return false;
-        }
-        if buffer - held < block {
-            return false;
-        }
-        true
+        u128::from(self.put) + u128::from(block)
+            <= u128::from(self.taken) + u128::from(session.buffer)
     }
 
     fn waits(self) -> bool
         ensures { Tells result (Waiting self) }
     {
-        if self.taken != 0 {
-            return false;
-        }
-        if self.clock != 0 {
-            return false;
-        }
-        true
+        self.taken == 0 && self.clock == 0
     }
 }

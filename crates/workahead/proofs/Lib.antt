@@ -1,4 +1,3 @@
-pub mod Truncated
 pub mod Aheads
 pub mod Calls
 pub mod Laws

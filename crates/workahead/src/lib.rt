@@ -2,7 +2,6 @@
 #![tactic(auto)]
 
 ghost use Rattle.std.specs.Prelude.{◌*◌, ◌≤◌, ◌<◌, ◌≡◌, nat_abs};
-ghost use Rattle.theory.specs.Floor.{Floors};
 ghost use Rattle.state.specs.State.{put_most};
 ghost use Rattle.workahead.specs.Times.{ahead_by_state};
 ghost use Rattle.workahead.specs.Answers.{ahead_for};
@@ -15,49 +14,31 @@ use state::State;
 pub fn magnitude(t: i64) -> u64
     ensures { result ≡ nat_abs t }
 {
-    if t < 0 {
-        let below = (-1 - t) as u64;
-        return below + 1;
-    }
-    t as u64
+    t.unsigned_abs()
 }
 
 // How far a session in this state is ahead of its player: 7 of a rate of 0, 19 of a state that no run has.
+#[tactic(auto, unfolding(crate::specs::Answers::ahead_for))]
 pub fn ahead_of(session: Session, state: State) -> Result<i64, Refusal>
     ensures { result ≡ ahead_for session state }
 {
     if session.rate == 0 {
         return Err(Refusal::SessionLimits(0));
     }
-    if State::PUT_MOST < state.put {
-        return Err(Refusal::Damaged);
-    }
-    if State::PUT_MOST * 1_000_000 < state.clock {
+    if State::PUT_MOST < state.put || State::PUT_MOST * 1_000_000 < state.clock {
         return Err(Refusal::Damaged);
     }
     Ok(ahead(state, session))
 }
 
-// x / r rounded down: toward zero, and one less where the remainder is below zero.
-fn floor_div(x: i64, r: u32) -> i64
-    requires { 0 < r }
-    ensures { Floors x r result }
-{
-    let d = r as i64;
-    let q = x / d;
-    if x % d < 0 {
-        return q - 1;
-    }
-    q
-}
-
-// ((P - Y) x 1,000,000 - C) / R in µs.
+// ((P - Y) x 1,000,000 - C) / R in µs, rounded down: the rate is above zero, so Euclid's quotient is it.
+#[tactic(auto, unfolding(theory::specs::Floor::floor_z))]
 fn ahead(state: State, session: Session) -> i64
     requires put_le_put_most { (state.put ≤ put_most) × (state.clock ≤ put_most * 1000000) }
     requires rate_nonzero { 0 < session.rate }
     ensures { result ≡ ahead_by_state session state }
 {
-    let bytes = state.put as i64 - session.cushion as i64;
+    let bytes = state.put as i64 - i64::from(session.cushion);
     let microbytes = bytes * 1_000_000 - state.clock as i64;
-    floor_div(microbytes, session.rate)
+    microbytes.div_euclid(i64::from(session.rate))
 }

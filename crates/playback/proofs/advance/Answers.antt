@@ -1,59 +1,21 @@
--- `advance` moves each clock on. Invariant: the first i have gone on; what falls: playing - i. Assumes nothing.
+-- `advance` moves each clock on: the first i have gone on. Assumes nothing.
+use mathlib.Core.Path.{sym}
+use native.Mathlib.Nat.{le_refl}
 use native.Mathlib.Omega.{arith}
-use Rattle.playback.proofs.Clocks.{advanced_none, advanced_ready, advanced_more, advanced_all, advanced_not}
+use Rattle.run.specs.Steps.{ticked_at}
+use Rattle.run.proofs.Changed.{changed_none, changed_more, changed_above}
 use Rattle.playback.proofs.advance.Goals as goal
 
-pub returns-then-not-started : goal.returns-then-not-started
-returns-then-not-started c =
-    advanced_not c.args.show c.args.d _ c.args.started c.if-not-started.true
-
 pub loop-i-init : goal.loop-i-init
-loop-i-init c =
-    advanced_none _ _ _
+loop-i-init c = sym (changed_none _ _)
 
-pub offset_bounds-show-i : goal.offset_bounds-show-i
-offset_bounds-show-i c =
-    omega arith
-
-pub bounds-show-i : goal.bounds-show-i
-bounds-show-i c =
-    omega arith
-
-pub offset_bounds-states-i : goal.offset_bounds-states-i
-offset_bounds-states-i c =
-    omega arith
-
-pub bounds-states-i : goal.bounds-states-i
-bounds-states-i c =
-    omega arith
-
-pub tick-requires : goal.tick-requires
-tick-requires c =
-    record {
-      taken_le_put_most = advanced_ready _ _ _ _ _ c.loop-i.invariant c.requires.clocked c.loop-i-test.true;
-      d_le_span_most = c.requires.d_le_span_most;
-    }
-
-pub offset_bounds-states-i-in-loop-i : goal.offset_bounds-states-i-in-loop-i
-offset_bounds-states-i-in-loop-i c =
-    omega arith
-
-pub bounds-states-i-in-loop-i : goal.bounds-states-i-in-loop-i
-bounds-states-i-in-loop-i c =
-    omega arith
-
-pub overflow_add-i : goal.overflow_add-i
-overflow_add-i c =
-    omega arith
-
-pub loop-i-smaller : goal.loop-i-smaller
-loop-i-smaller c =
-    omega arith
+pub tick-requires-clause-taken_le_put_most : goal.tick-requires-clause-taken_le_put_most
+tick-requires-clause-taken_le_put_most c =
+    let s = c.requires.sound.states c.loop-i.i c.loop-i-test.true in
+    let t = s.taken in
+    let p = s.put in
+    rw (c.loop-i.invariant, changed_above (ticked_at c.args.run.now c.args.d) c.loop-i.i c.args.run.now.states c.loop-i.i (le_refl _)) (omega arith, s.clock)
 
 pub loop-i-preserved : goal.loop-i-preserved
 loop-i-preserved c =
-    advanced_more _ _ _ _ _ c.loop-i.invariant c.loop-i-test.true _ c.tick.ensures
-
-pub returns : goal.returns
-returns c =
-    advanced_all _ _ _ _ _ c.loop-i.invariant c.loop-i-test.false c.args.started c.if-not-started.false
+    rw (c.tick.ensures, c.loop-i.invariant, changed_above (ticked_at c.args.run.now c.args.d) c.loop-i.i c.args.run.now.states c.loop-i.i (le_refl _), changed_more)

@@ -1,10 +1,7 @@
--- `advance` moves each clock on. Invariant: the first i have gone on; what falls: playing - i. Assumes nothing.
-use Prim.Native.Nat.{◌-◌}
-use Rattle.playback.proofs.Clocks.{AdvancedTo}
+-- `advance` moves each clock on: the first i have gone on. Assumes nothing.
+use mathlib.Core.Path.{◌≡◌}
+use Rattle.run.specs.Steps.{changed, ticked_at}
 use Rattle.playback.proofs.advance.Given as goal
 
 abbrev pub invariant-loop-i : goal.invariant-loop-i
-invariant-loop-i l = AdvancedTo l.show l.d l.initial.states l.states l.i
-
-abbrev pub decreases-loop-i : goal.decreases-loop-i
-decreases-loop-i l = l.show.playing - l.i
+invariant-loop-i l = l.states ≡ changed (ticked_at l.run l.d) l.i l.run.states

@@ -4,9 +4,8 @@ use mathlib.Core.Path.{◌≡◌}
 use native.Mathlib.Omega.{arith}
 use lib.ListN.{length}
 use Rattle.show.proofs.Lists.{unmapped}
-use Rattle.run_test.proofs.Tests.{tested_sound, tested_damaged}
-use Rattle.playback.proofs.Clocks.{sound_clocked}
-use Rattle.playback.proofs.Calls.{finish_damaged, finish_long, finish_nothing, finish_counted, read_few, read_seated, advanced_put}
+use Rattle.run_test.proofs.Tests.{tested_sound}
+use Rattle.playback.proofs.Calls.{finish_counted, read_few, advanced_put}
 use borrow.Author.Rules.{rules}
 use Rattle.playback.proofs.finish.Goals.{After-advance-states}
 use Rattle.playback.proofs.finish.Goals as goal
@@ -14,24 +13,6 @@ use Rattle.playback.proofs.finish.Goals as goal
 -- The session read is one of the 16.
 few : (c : After-advance-states) → c.in-Some.session < 16
 few c = read_few _ (tested_sound _ _ c.test_run.ensures c.in-Sound.is) _ c.in-Some.is
-
-pub returns-in_default : goal.returns-in_default
-returns-in_default c =
-    finish_damaged _ _ (tested_damaged _ _ c.test_run.ensures c.in_default.is)
-
-pub returns-then-d-gt-SPAN_MOST : goal.returns-then-d-gt-SPAN_MOST
-returns-then-d-gt-SPAN_MOST c =
-    finish_long _ _ (tested_sound _ _ c.test_run.ensures c.in-Sound.is) c.if-d-gt-SPAN_MOST.true
-
-pub returns-in_default-underway : goal.returns-in_default-underway
-returns-in_default-underway c =
-    finish_nothing _ _ (tested_sound _ _ c.test_run.ensures c.in-Sound.is) c.if-d-gt-SPAN_MOST.false c.in_default-underway.is
-
-pub advance-states-requires : goal.advance-states-requires
-advance-states-requires c = record {
-  clocked = sound_clocked _ (tested_sound _ _ c.test_run.ensures c.in-Sound.is);
-  d_le_span_most = c.if-d-gt-SPAN_MOST.false;
-}
 
 pub offset_bounds-states-session : goal.offset_bounds-states-session
 offset_bounds-states-session c = let b = few c in omega arith
@@ -53,13 +34,9 @@ offset_bounds-states-session-2 c =
 pub bounds-states-session-2 : goal.bounds-states-session-2
 bounds-states-session-2 c = few (goal.at.bounds-states-session-2 c).After-advance-states
 
-pub place_after-place-requires : goal.place_after-place-requires
-place_after-place-requires c =
-    (read_seated _ (tested_sound _ _ c.test_run.ensures c.in-Sound.is) _ c.in-Some.is).place
-
 pub returns : goal.returns
 returns c =
     let sound = tested_sound _ _ c.test_run.ensures c.in-Sound.is in
     rw c.fill.ensures
     (finish_counted _ _ sound c.if-d-gt-SPAN_MOST.false _ _ _ _ _ c.in-Some.is c.advance-states.ensures c.place_after-place.ensures
-    c.left_in.ensures c.count_off.ensures)
+    c.left_in.ensures c.count_off-left.ensures)

@@ -1,10 +1,8 @@
--- `test_run` tells whether a run record is sound. Invariant: the first i states are; what falls: playing - i. Assumes nothing.
-use Prim.Native.Nat.{◌-◌}
-use Rattle.run_test.proofs.Tests.{StatesTo}
+-- `test_run` tells whether a run record is sound: the first i states are. Assumes nothing.
+use Prim.Native.Nat.{ℕ, ◌<◌}
+use Rattle.state.specs.State.{StateSound}
+use Rattle.run.specs.Run.{clip_at, state_at}
 use Rattle.run_test.proofs.test_run.Given as goal
 
 abbrev pub invariant-loop-i : goal.invariant-loop-i
-invariant-loop-i l = StatesTo l.run l.i
-
-abbrev pub decreases-loop-i : goal.decreases-loop-i
-decreases-loop-i l = l.run.show.playing - l.i
+invariant-loop-i l = (k : ℕ) → k < l.i → StateSound l.run.started (clip_at l.run k) (state_at l.run k)

@@ -3,10 +3,5 @@ use native.Mathlib.Omega.{arith}
 use Rattle.run.proofs.Orders.{names_below}
 use Rattle.run_test.proofs.turns.Goals as goal
 
-pub offset_bounds-counts-seat : goal.offset_bounds-counts-seat
-offset_bounds-counts-seat c =
-    let b = names_below _ _ c.requires.names_each _ c.if-playing-place.false in omega arith
-
-pub bounds-counts-seat : goal.bounds-counts-seat
-bounds-counts-seat c =
-    let b = names_below _ _ c.requires.names_each _ c.if-playing-place.false in omega arith
+pub bounds-counts-order : goal.bounds-counts-order
+bounds-counts-order c = let b = names_below _ _ c.requires.names_each _ c.if-place-playing.true in omega arith
