@@ -12,33 +12,13 @@ mod shows;
 mod sums;
 
 use input::read_all;
-use parse::{find, part, parts, same};
+use parse::{part, parts};
 use parse_numbers::{decimal, unhex};
+use run::Run;
 use show::Show;
+use showfile::Reading;
 
 const TURNS_MOST: u64 = 1_000_000_000_000;
-
-const FILE_MOST: usize = 1_428;
-
-// Longer than any file.
-const NO_BYTES: usize = 1_429;
-
-#[derive(Clone, Copy)]
-enum Kind {
-    Empty,
-    Read,
-    Write,
-    Decide,
-    Reason,
-    Report,
-    Open,
-    Play,
-    Pass,
-    Take,
-    Slack,
-    Workahead,
-    Unknown,
-}
 
 fn main(rt: HostRuntime) {
     let mut text = room();
@@ -53,181 +33,94 @@ fn room() -> [u8; 1_048_576] {
 
 // The last line may end with a newline or not.
 fn answers(rt: &impl Print, text: &[u8]) {
-    let mut from = 0;
-    let mut i = 1;
-    while from < text.len() {
-        let rest = &text[from..];
-        let n = find(rest, b'\n');
-        answer(rt, &rest[0..n], i);
-        from = from + n + 1;
-        i += 1;
+    for (i, line) in text.split_inclusive(|b| *b == b'\n').enumerate() {
+        answer(rt, line.strip_suffix(b"\n").unwrap_or(line), i as u64 + 1);
     }
 }
 
 // Line i, counted from 1.
-fn answer(rt: &impl Print, line: &[u8], i: usize) {
-    let mut file = [0u8; FILE_MOST];
-    let sum = sum_of(line, &mut file);
-    let Some(n) = sum else {
+fn answer(rt: &impl Print, line: &[u8], i: u64) {
+    if let Some((turns, sum)) = done(line) {
+        say(rt, part(line, b' ', 0));
+        spaced(rt, turns);
+        spaced(rt, sum);
+    } else {
         say(rt, b"error");
-        spaced(rt, i as u64);
-        say(rt, b"\n");
-        return;
-    };
-    say(rt, part(line, b' ', 0));
-    spaced(rt, turns_of(line));
-    spaced(rt, n);
+        spaced(rt, i);
+    }
     say(rt, b"\n");
 }
 
 // ---- what a line asks
 
-// What a job comes to, or that the line is none.
-fn sum_of(line: &[u8], file: &mut [u8]) -> Option<u64> {
-    let n = bytes_of(part(line, b' ', 2), file);
-    let turns = turns_of(line);
-    if file.len() < n {
-        return None;
-    }
-    if TURNS_MOST < turns {
-        return None;
-    }
+// How many turns the line asks for, and what they come to; nothing where it is no job.
+fn done(line: &[u8]) -> Option<(u64, u64)> {
     if parts(line, b' ') != 3 {
         return None;
     }
-    file_job(kind_of(part(line, b' ', 0)), turns, &mut file[0..n])
+    let mut room = [0u8; Reading::FILE_MOST];
+    let turns = turns_of(part(line, b' ', 1))?;
+    let n = bytes_of(part(line, b' ', 2), &mut room)?;
+    let sum = file_job(part(line, b' ', 0), turns, room.get_mut(..n)?)?;
+    Some((turns, sum))
 }
 
-// How often; too often where the text is no number.
-fn turns_of(line: &[u8]) -> u64 {
-    let number = decimal(part(line, b' ', 1));
-    let Some(turns) = number else {
-        return TURNS_MOST + 1;
-    };
-    turns
+fn turns_of(text: &[u8]) -> Option<u64> {
+    decimal(text).filter(|turns| *turns <= TURNS_MOST)
 }
 
-fn bytes_of(text: &[u8], out: &mut [u8]) -> usize {
-    if same(text, b"-") {
-        return 0;
+// How many bytes the text spells, which then stand in `out` as far as it has room.
+fn bytes_of(text: &[u8], out: &mut [u8]) -> Option<usize> {
+    if text == b"-".as_slice() {
+        return Some(0);
     }
-    if capital(text) {
-        return NO_BYTES;
+    if text.iter().any(|b| matches!(b, b'A'..=b'F')) {
+        return None;
     }
-    let count = unhex(text, out);
-    let Some(n) = count else {
-        return NO_BYTES;
-    };
-    n as usize
-}
-
-// Whether a digit of hex is a capital letter.
-fn capital(text: &[u8]) -> bool {
-    let mut b = b'A';
-    while b <= b'F' {
-        if find(text, b) < text.len() {
-            return true;
-        }
-        b += 1;
-    }
-    false
-}
-
-fn kind_of(word: &[u8]) -> Kind {
-    if same(word, b"none") {
-        return Kind::Empty;
-    }
-    if same(word, b"read") {
-        return Kind::Read;
-    }
-    if same(word, b"write") {
-        return Kind::Write;
-    }
-    if same(word, b"decide") {
-        return Kind::Decide;
-    }
-    if same(word, b"reason") {
-        return Kind::Reason;
-    }
-    if same(word, b"report") {
-        return Kind::Report;
-    }
-    if same(word, b"open") {
-        return Kind::Open;
-    }
-    run_kind(word)
-}
-
-fn run_kind(word: &[u8]) -> Kind {
-    if same(word, b"play") {
-        return Kind::Play;
-    }
-    if same(word, b"pass") {
-        return Kind::Pass;
-    }
-    if same(word, b"take") {
-        return Kind::Take;
-    }
-    if same(word, b"slack") {
-        return Kind::Slack;
-    }
-    if same(word, b"workahead") {
-        return Kind::Workahead;
-    }
-    Kind::Unknown
+    unhex(text, out).map(|n| n as usize)
 }
 
 // ---- the jobs, by what they need
 
-fn file_job(kind: Kind, turns: u64, file: &mut [u8]) -> Option<u64> {
-    if let Kind::Read = kind {
-        return Some(files::reads(file, turns));
+fn file_job(kind: &[u8], turns: u64, file: &mut [u8]) -> Option<u64> {
+    match kind {
+        b"read" => Some(files::reads(file, turns)),
+        b"report" => Some(files::reports(file, turns)),
+        _ => show_job(kind, turns, file),
     }
-    if let Kind::Report = kind {
-        return Some(files::reports(file, turns));
-    }
-    let got = showfile::read(file);
-    let check = got.check;
-    let Ok(()) = check else {
-        return None;
-    };
-    let show = got.show;
-    if let Kind::Write = kind {
-        return Some(files::writes(show, showfile::note(file), turns));
-    }
-    show_job(kind, turns, show)
 }
 
-fn show_job(kind: Kind, turns: u64, show: Show) -> Option<u64> {
+fn show_job(kind: &[u8], turns: u64, file: &[u8]) -> Option<u64> {
+    let Reading {
+        check: Ok(()),
+        show,
+        ..
+    } = showfile::read(file)
+    else {
+        return None;
+    };
     match kind {
-        Kind::Empty => Some(shows::nothings(turns)),
-        Kind::Decide => Some(shows::decides(show, turns)),
-        Kind::Reason => Some(shows::reasons(show, turns)),
-        Kind::Open => Some(shows::opens(show, turns)),
-        Kind::Play => run_job(Kind::Play, turns, show),
-        Kind::Pass => run_job(Kind::Pass, turns, show),
-        Kind::Take => run_job(Kind::Take, turns, show),
-        Kind::Slack => run_job(Kind::Slack, turns, show),
-        Kind::Workahead => run_job(Kind::Workahead, turns, show),
+        b"none" => Some(shows::nothings(turns)),
+        b"write" => Some(files::writes(show, showfile::note(file), turns)),
+        b"decide" => Some(shows::decides(show, turns)),
+        b"reason" => Some(shows::reasons(show, turns)),
+        b"open" => Some(shows::opens(show, turns)),
+        b"play" => run_job(show, turns, runs::plays),
+        b"pass" => run_job(show, turns, runs::passes),
+        b"take" => run_job(show, turns, runs::takes),
+        b"slack" => run_job(show, turns, runs::slacks),
+        b"workahead" => run_job(show, turns, runs::workaheads),
         _ => None,
     }
 }
 
-fn run_job(kind: Kind, turns: u64, show: Show) -> Option<u64> {
+// The run is opened and started first.
+fn run_job<F: FnOnce(Run, u64) -> u64>(show: Show, turns: u64, job: F) -> Option<u64>
+    requires { F.IsAlwaysCallable job }
+{
     let opened = run::open(show);
-    let check = opened.check;
-    let Ok(()) = check else {
-        return None;
-    };
-    let given = runs::started(opened.run);
-    let sum = match kind {
-        Kind::Play => runs::plays(given, turns),
-        Kind::Pass => runs::passes(given, turns),
-        Kind::Take => runs::takes(given, turns),
-        Kind::Slack => runs::slacks(given, turns),
-        _ => runs::workaheads(given, turns),
-    };
-    Some(sum)
+    opened.check.ok()?;
+    Some(job(runs::started(opened.run), turns))
 }
 
 // ---- what is printed

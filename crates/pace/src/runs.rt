@@ -1,12 +1,19 @@
 // Jobs on a run.
 ghost use Rattle.std.specs.Prelude.{◌<◌};
 
+<<<<<<< HEAD
 use crate::sums::{four, number_of, odd, three, two};
 use run::Run;
 use scheduler::Choice;
 use show::refusal::Refusal;
 use std::num::wrapping_sub_u64;
 use workahead::magnitude;
+=======
+use crate::sums::{number, number_of, odd, over, total};
+use run::{Moved, Run};
+use scheduler::Choice;
+use show::refusal::Refusal;
+>>>>>>> 62bcce4d11ee01b0bf679f28ddca1babe619fee0
 
 // How long a read takes, and how long passes before the next.
 const SPAN: u64 = 100;
@@ -17,127 +24,63 @@ const IDLE: u64 = 1_000;
 // How many blocks of each session come before the start.
 const FIRST: usize = 64;
 
-// What a turn adds, and the run after it.
-#[derive(Clone, Copy)]
-struct Turn {
-    sum: u64,
-    run: Run,
-}
-
 // ---- before the turns
 
 // Filled and started.
-pub(crate) fn started(run: Run) -> Run {
-    let mut next = run;
-    let blocks = run.show.playing % 17 * FIRST;
-    let mut i = 0;
-    while i < blocks {
-        next = filled(next);
-        i += 1;
+pub(crate) fn started(mut run: Run) -> Run {
+    for _ in 0..run.show.playing % 17 * FIRST {
+        run = playback::finish(scheduler::choose(run).run, 0).run;
     }
-    let moved = spare::start(next);
-    moved.run
+    spare::start(run).run
 }
 
-fn filled(run: Run) -> Run {
-    let chosen = scheduler::choose(run);
-    let moved = playback::finish(chosen.run, 0);
-    moved.run
+// ---- calls that move the run
+
+pub(crate) fn plays(mut run: Run, turns: u64) -> u64 {
+    over(turns, |_| play(&mut run))
 }
 
-// ---- played blocks
-
-pub(crate) fn plays(given: Run, turns: u64) -> u64 {
-    let mut run = given;
-    let mut sum = 0;
-    let mut k = 0;
-    while k < turns {
-        let turn = play(run);
-        run = turn.run;
-        sum = two(sum, turn.sum);
-        k += 1;
-    }
-    sum
-}
-
-// A block is chosen, comes and is taken, and time passes.
-fn play(run: Run) -> Turn {
-    let chosen = scheduler::choose(run);
-    let choice = chosen.choice;
-    let Choice::Read(session) = choice else {
-        return gap(chosen.run, adds(choice));
-    };
-    let finished = playback::finish(chosen.run, SPAN);
-    let came = finished.check;
-    let taken = playback::take(finished.run, session, run.show.drive.block as u64);
-    let took = taken.check;
-    let passed = playback::pass(taken.run, SPAN);
-    let went = passed.check;
-    let at = session % 16;
-    let next = passed.run;
-    let state = next.states[at];
-    let numbers = four(
-        number_of(came),
-        number_of(took),
-        number_of(went),
-        session as u64,
-    );
-    Turn {
-        sum: two(numbers, state.clock),
-        run: next,
-    }
-}
-
-// What is added where nothing is read.
-fn adds(choice: Choice) -> u64 {
-    match choice {
+// A block is chosen, comes and is taken, and time passes. Where nothing is read, it passes all the same.
+fn play(run: &mut Run) -> u64 {
+    let chosen = scheduler::choose(*run);
+    *run = chosen.run;
+    let added = match chosen.choice {
         Choice::Idle => IDLE,
-        Choice::Read(_) => 0,
-        Choice::Refused(why) => why.told().number as u64,
-    }
+        Choice::Refused(why) => number(why),
+        Choice::Read(session) => return block(run, session),
+    };
+    total([added, kept(playback::pass(*run, SPAN), run)])
 }
 
-fn gap(run: Run, sum: u64) -> Turn {
-    let passed = playback::pass(run, SPAN);
-    let went = passed.check;
-    let next = passed.run;
-    Turn {
-        sum: two(sum, number_of(went)),
-        run: next,
-    }
+fn block(run: &mut Run, session: usize) -> u64 {
+    let came = kept(playback::finish(*run, SPAN), run);
+    let took = kept(
+        playback::take(*run, session, run.show.drive.block as u64),
+        run,
+    );
+    let went = kept(playback::pass(*run, SPAN), run);
+    total([
+        came,
+        took,
+        went,
+        session as u64,
+        run.states[session % 16].clock,
+    ])
 }
 
-// ---- one call at a time
-
-pub(crate) fn passes(given: Run, turns: u64) -> u64 {
-    let mut run = given;
-    let mut sum = 0;
-    let mut k = 0;
-    while k < turns {
-        let moved = playback::pass(run, 1);
-        run = moved.run;
-        let check = moved.check;
-        let state = run.states[0];
-        sum = three(sum, number_of(check), state.clock);
-        k += 1;
-    }
-    sum
+pub(crate) fn passes(mut run: Run, turns: u64) -> u64 {
+    over(turns, |_| {
+        let went = kept(playback::pass(run, 1), &mut run);
+        total([went, run.states[0].clock])
+    })
 }
 
-pub(crate) fn takes(given: Run, turns: u64) -> u64 {
-    let mut run = given;
-    let mut sum = 0;
-    let mut k = 0;
-    while k < turns {
+pub(crate) fn takes(mut run: Run, turns: u64) -> u64 {
+    over(turns, |k| {
         let at = seat(k, run.show.playing);
-        let moved = playback::take(run, at, 0);
-        run = moved.run;
-        let check = moved.check;
-        let state = run.states[at];
-        sum = three(sum, number_of(check), state.taken);
-        k += 1;
-    }
-    sum
+        let took = kept(playback::take(run, at, 0), &mut run);
+        total([took, run.states[at].taken])
+    })
 }
 
 // Each session in turn.
@@ -147,58 +90,40 @@ fn seat(k: u64, playing: usize) -> usize
     if playing == 0 {
         return 0;
     }
-    (k as usize % playing) % 16
+    k as usize % playing % 16
 }
 
-// A byte of the first session taken, so that its clock can be 0 and 1 by turns.
-fn bitten(run: Run) -> Run {
-    let moved = playback::take(run, 0, 1);
-    moved.run
+// The run is what the call left. Answers the number that the call refused with; 0 where it did not.
+fn kept(moved: Moved, run: &mut Run) -> u64 {
+    *run = moved.run;
+    number_of(moved.check)
 }
 
-pub(crate) fn slacks(given: Run, turns: u64) -> u64 {
-    let mut run = bitten(given);
-    let mut sum = 0;
-    let mut k = 0;
-    while k < turns {
-        let clock = odd(k);
-        run.states[0].clock = clock;
-        let spared = spare::slack(run);
-        let spare = spared.spare;
-        sum = two(sum, spared_of(spare));
-        k += 1;
-    }
-    sum
+// ---- calls that ask of the run
+
+pub(crate) fn slacks(run: Run, turns: u64) -> u64 {
+    clocked(run, turns, |run| spare::slack(run).spare)
 }
 
-pub(crate) fn workaheads(given: Run, turns: u64) -> u64 {
-    let mut run = bitten(given);
-    let mut sum = 0;
-    let mut k = 0;
-    while k < turns {
-        let clock = odd(k);
-        run.states[0].clock = clock;
-        let spared = spare::workahead(run, 0);
-        let spare = spared.spare;
-        sum = two(sum, spared_of(spare));
-        k += 1;
-    }
-    sum
+pub(crate) fn workaheads(run: Run, turns: u64) -> u64 {
+    clocked(run, turns, |run| spare::workahead(run, 0).spare)
+}
+
+// A byte of the first session is taken, so that its clock can be 0 and 1 by turns.
+fn clocked<F: Fn(Run) -> Result<i64, Refusal>>(mut run: Run, turns: u64, ask: F) -> u64
+    requires { (f : F) → F.IsAlwaysCallable f }
+{
+    run = playback::take(run, 0, 1).run;
+    over(turns, |k| {
+        run.states[0].clock = odd(k);
+        time_of(ask(run))
+    })
 }
 
 // The time modulo 2^64, or the refusal's number.
-fn spared_of(spare: Result<i64, Refusal>) -> u64 {
+fn time_of(spare: Result<i64, Refusal>) -> u64 {
     match spare {
-        Ok(t) => bits(t),
-        Err(why) => why.told().number as u64,
+        Ok(t) => t.cast_unsigned(),
+        Err(why) => number(why),
     }
-}
-
-// Two's complement.
-fn bits(t: i64) -> u64 {
-    let size = magnitude(t);
-    if t < 0 {
-        return wrapping_sub_u64(0, size);
-    }
-    size
 }

@@ -1,63 +1,51 @@
 // Jobs on a show.
+<<<<<<< HEAD
 use crate::sums::{cushion, first_cushion, four, last, number_of, three, two};
+=======
+use crate::sums::{last, number, number_of, odd, over, total};
+>>>>>>> 62bcce4d11ee01b0bf679f28ddca1babe619fee0
 use reason::Reason;
 use show::Show;
 use show::refusal::Refusal;
 
 // The loop alone.
 pub(crate) fn nothings(turns: u64) -> u64 {
-    let mut sum = 0;
-    let mut k = 0;
-    while k < turns {
-        sum = two(sum, k);
-        k += 1;
-    }
-    sum
+    over(turns, |k| k)
 }
 
-pub(crate) fn decides(given: Show, turns: u64) -> u64 {
-    let first = first_cushion(given);
+pub(crate) fn decides(show: Show, turns: u64) -> u64 {
+    cushioned(show, turns, decide)
+}
+
+pub(crate) fn reasons(show: Show, turns: u64) -> u64 {
+    cushioned(show, turns, reason)
+}
+
+pub(crate) fn opens(show: Show, turns: u64) -> u64 {
+    cushioned(show, turns, open)
+}
+
+// Asks of the show with its first cushion as it is, and one larger, by turns.
+fn cushioned<F: Fn(Show) -> u64>(given: Show, turns: u64, ask: F) -> u64
+    requires { (f : F) → F.IsAlwaysCallable f }
+{
+    let first = given.sessions[0].cushion;
     let mut show = given;
-    let mut sum = 0;
-    let mut k = 0;
-    while k < turns {
-        show.sessions[0].cushion = cushion(first, k);
-        sum = two(sum, decide(show));
-        k += 1;
-    }
-    sum
+    over(turns, |k| {
+        show.sessions[0].cushion = first.wrapping_add(odd(k) as u32);
+        ask(show)
+    })
 }
 
 fn decide(show: Show) -> u64 {
     let decision = verdict::decide(show);
-    let verdict = decision.verdict;
     let at = last(show.playing);
-    four(
-        refusal_of(verdict),
+    total([
+        number_of(decision.verdict),
         decision.round,
         decision.counts[at] as u64,
         decision.times[at],
-    )
-}
-
-fn refusal_of(verdict: Result<(), Refusal>) -> u64 {
-    let Err(why) = verdict else {
-        return 0;
-    };
-    why.told().number as u64
-}
-
-pub(crate) fn reasons(given: Show, turns: u64) -> u64 {
-    let first = first_cushion(given);
-    let mut show = given;
-    let mut sum = 0;
-    let mut k = 0;
-    while k < turns {
-        show.sessions[0].cushion = cushion(first, k);
-        sum = two(sum, reason(show));
-        k += 1;
-    }
-    sum
+    ])
 }
 
 fn reason(show: Show) -> u64 {
@@ -65,26 +53,12 @@ fn reason(show: Show) -> u64 {
         Ok(None) => 0,
         Ok(Some(Reason::Overload)) => 1,
         Ok(Some(Reason::Beyond)) => 2,
-        Ok(Some(Reason::Buffer { session, size })) => three(3, session as u64, size),
-        Err(why) => why.told().number as u64,
+        Ok(Some(Reason::Buffer { session, size })) => total([3, session as u64, size]),
+        Err(why) => number(why),
     }
-}
-
-pub(crate) fn opens(given: Show, turns: u64) -> u64 {
-    let first = first_cushion(given);
-    let mut show = given;
-    let mut sum = 0;
-    let mut k = 0;
-    while k < turns {
-        show.sessions[0].cushion = cushion(first, k);
-        sum = two(sum, open(show));
-        k += 1;
-    }
-    sum
 }
 
 fn open(show: Show) -> u64 {
     let opened = run::open(show);
-    let check = opened.check;
-    two(number_of(check), opened.run.left as u64)
+    total([number_of(opened.check), opened.run.left as u64])
 }
