@@ -17,28 +17,39 @@ pub struct Drawn {
 }
 
 // n bytes taken of a session in such a state: 19, 12, 10.
+#[tactic(auto, unfolding(crate::specs::Answers::take_check, crate::specs::Answers::drawn_of))]
 pub fn take_from(state: State, session: Session, started: bool, n: u64) -> Drawn
     ensures { result ≡ drawn_of state session started n }
 {
-    take_lent(state, session, started, n)
+    let refused = |why| Drawn {
+        check: Err(why),
+        state,
+    };
+    if !state.within(session, started) {
+        return refused(Refusal::Damaged);
+    }
+    if !started {
+        return refused(Refusal::NotStarted);
+    }
+    if state.put - state.taken < n {
+        return refused(Refusal::TooMuch);
+    }
+    Drawn {
+        check: Ok(()),
+        state: State {
+            taken: state.taken + n,
+            ..state
+        },
+    }
 }
 
 // The same on a state that the player lends.
-#[tactic(auto, unfolding(crate::specs::Answers::take_check, crate::specs::Answers::drawn_of))]
 pub fn take(state: &mut State, session: Session, started: bool, n: u64) -> Result<(), Refusal>
     ensures { (result ≡ (drawn_of state.old session started n).check) × (state.new ≡ (drawn_of state.old session started n).state) }
 {
-    if !state.within(session, started) {
-        return Err(Refusal::Damaged);
-    }
-    if !started {
-        return Err(Refusal::NotStarted);
-    }
-    if state.put - state.taken < n {
-        return Err(Refusal::TooMuch);
-    }
-    state.taken += n;
-    Ok(())
+    let drawn = take_from(*state, session, started, n);
+    *state = drawn.state;
+    drawn.check
 }
 
 // For a caller that has nothing to lend: plain parameters.
