@@ -1,3 +1,4 @@
+pub mod Truncated
 pub mod Aheads
 pub mod Calls
 pub mod Laws

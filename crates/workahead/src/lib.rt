@@ -2,6 +2,7 @@
 #![tactic(auto)]
 
 ghost use Rattle.std.specs.Prelude.{◌*◌, ◌≤◌, ◌<◌, ◌≡◌, nat_abs};
+ghost use Rattle.theory.specs.Floor.{Floors};
 ghost use Rattle.state.specs.State.{put_most};
 ghost use Rattle.workahead.specs.Times.{ahead_by_state};
 ghost use Rattle.workahead.specs.Answers.{ahead_for};
@@ -31,8 +32,21 @@ pub fn ahead_of(session: Session, state: State) -> Result<i64, Refusal>
     Ok(ahead(state, session))
 }
 
-// ((P - Y) x 1,000,000 - C) / R in µs, rounded down: the rate is above zero, so Euclid's quotient is it.
-#[tactic(auto, unfolding(theory::specs::Floor::floor_z))]
+// x / r rounded down: toward zero, and one less where the remainder is below zero. The rule of docs/DECISIONS.md, "Forms", has it worked out
+// for both signs: `div_euclid` would do it unseen.
+fn floor_div(x: i64, r: u32) -> i64
+    requires { 0 < r }
+    ensures { Floors x r result }
+{
+    let d = i64::from(r);
+    let q = x / d;
+    if x % d < 0 {
+        return q - 1;
+    }
+    q
+}
+
+// ((P - Y) x 1,000,000 - C) / R in µs.
 fn ahead(state: State, session: Session) -> i64
     requires put_le_put_most { (state.put ≤ put_most) × (state.clock ≤ put_most * 1000000) }
     requires rate_nonzero { 0 < session.rate }
@@ -40,5 +54,5 @@ fn ahead(state: State, session: Session) -> i64
 {
     let bytes = state.put as i64 - i64::from(session.cushion);
     let microbytes = bytes * 1_000_000 - state.clock as i64;
-    microbytes.div_euclid(i64::from(session.rate))
+    floor_div(microbytes, session.rate)
 }
