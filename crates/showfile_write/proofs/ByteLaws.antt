@@ -1,18 +1,11 @@
 -- Laws of bytes that are written over others: numbers, and bytes that are copied. Assumes nothing.
 use mathlib.Core.Path.{◌≡◌, refl, ap, ◌∙◌}
 use mathlib.Core.List.{List, ◌++◌, append_assoc}
-use Prim.Native.Nat.{ℕ, ◌+◌, ◌-◌, ◌≤◌}
+use Prim.Native.Nat.{ℕ, ◌+◌, ◌≤◌}
 use native.Mathlib.Omega.{arith}
 use lib.ListN.{length, length-append}
-use lib.Seq.{drop-drop}
-use borrow.Rule.Slice.PartMut.{put_mid}
 use Rattle.showfile.specs.Bytes.{word_bytes, four_bytes, over}
 use Rattle.showfile.proofs.ByteLaws.{over_then}
-
--- bytes that are copied into a part
-pub part_over : (b : List ℕ) (at : ℕ) (vs : List ℕ) → put_mid at (at + length vs - at) b vs ≡ over b at vs
-unfolding over
-part_over b at vs = let e : at + length vs - at ≡ length vs = omega arith in rw (e, drop-drop (length vs) at b) refl
 
 -- ---- four numbers
 
