@@ -44,10 +44,8 @@ pub fn chikchiro_decide(
     if let Err(why) = verdict {
         return code(why);
     }
-    let blocks = decision.counts;
-    let spent = decision.times;
-    put_counts(counts, blocks);
-    put_times(times, spent);
+    counts[..16].copy_from_slice(&decision.counts);
+    times[..16].copy_from_slice(&decision.times);
     round[0] = decision.round;
     0
 }
@@ -113,28 +111,6 @@ fn code(why: Refusal) -> u64
 {
     let told = why.told();
     told.number as u64 + 256 * told.place as u64
-}
-
-fn put_counts(out: &mut [u32], counts: [u32; 16])
-    requires { 16 ≤ length out.old }
-    ensures { out.new ≡ over out.old 0 counts }
-{
-    let mut i = 0;
-    while i < 16 {
-        out[i] = counts[i];
-        i += 1;
-    }
-}
-
-fn put_times(out: &mut [u64], times: [u64; 16])
-    requires { 16 ≤ length out.old }
-    ensures { out.new ≡ over out.old 0 times }
-{
-    let mut i = 0;
-    while i < 16 {
-        out[i] = times[i];
-        i += 1;
-    }
 }
 
 fn put_reason(out: &mut [u64], kind: u64, session: u64, size: u64) -> u64

@@ -1,11 +1,12 @@
 -- Laws of bytes written over others. Assumes nothing.
-use mathlib.Core.Path.{◌≡◌, sym, ap, ◌∙◌}
+use mathlib.Core.Path.{◌≡◌, refl, sym, ap, ◌∙◌}
 use mathlib.Core.List.{List, [], ◌∷◌, ◌++◌, append_assoc}
 use Prim.Native.Nat.{ℕ, ◌+◌, ◌≤◌}
 use native.Mathlib.Nat.{add-zero, add_assoc, zero-add}
 use native.Mathlib.Omega.{arith}
 use lib.ListN.{length, take, drop, set, length-append, length-take, take-append-drop}
 use lib.Seq.{drop-drop, sets-eq, sets, take_at, drop_at}
+use borrow.Rule.Slice.PartMut.{put_mid}
 use Rattle.showfile.specs.Bytes.{over}
 
 -- stores one after the other
@@ -15,6 +16,11 @@ sets_over vs b at h = sets-eq vs b at h ∙ append_assoc (take at b) vs (drop (a
 
 pub one_over : (b : List ℕ) (at p : ℕ) → at + 1 ≤ length b → set b at p ≡ over b at (p ∷ [])
 one_over b at p h = sets_over (p ∷ []) b at h
+
+-- what is copied into a part
+pub part_over : (b : List ℕ) (at k : ℕ) (vs : List ℕ) → length vs ≡ k → put_mid at k b vs ≡ over b at vs
+unfolding over
+part_over b at k vs e = rw (← e, drop-drop (length vs) at b) refl
 
 pub over_nothing : (b : List ℕ) (at : ℕ) → b ≡ over b at []
 unfolding over

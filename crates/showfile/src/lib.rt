@@ -18,6 +18,7 @@ use show::Show;
 use show::refusal::Refusal;
 
 // What reading answers: the show and the length of its note. Refused, both are zeros.
+// No `Result` with a show: `reading` (specs/Answers), which the promises cite, has zeros beside a refusal.
 #[derive(Clone, Copy)]
 pub struct Reading {
     pub check: Result<(), Refusal>,
@@ -25,7 +26,7 @@ pub struct Reading {
     pub note: usize,
 }
 
-// What a writer answers: how many bytes it wrote. Refused, none.
+// What a writer answers: how many bytes it wrote. Refused, none. No `Result`, for the same reason: `written` has a 0 there.
 #[derive(Clone, Copy)]
 pub struct Written {
     pub check: Result<(), Refusal>,
@@ -56,10 +57,9 @@ impl Reading {
 pub fn refused(why: Refusal) -> Reading
     ensures { result ≡ reading (Err why) no_show 0 }
 {
-    let show = Show::nothing();
     Reading {
         check: Err(why),
-        show,
+        show: Show::nothing(),
         note: 0,
     }
 }

@@ -8,13 +8,14 @@ ghost use Rattle.showfile.specs.File.{layout_of, layout_bytes, session_of, sessi
 use crate::bytes::get_word;
 use show::{Layout, Session};
 
-// A record that takes a row of sixteen bytes: four words.
+// A record that takes sixteen bytes of a file: four words, the one after the other.
 pub trait Row: Copy {
     // The record that a list of bytes begins with, and the bytes of a record.
     ghost of: { List ℕ → Self };
 
     ghost bytes: { Self → List ℕ };
 
+    // Words stand in the order in which the file has them.
     fn from_words(words: [u32; 4]) -> Self
         ensures { (s : List ℕ) → words ≡ words_of s → result ≡ of s };
 

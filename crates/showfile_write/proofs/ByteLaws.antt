@@ -1,18 +1,25 @@
 -- Laws of bytes that are written over others: numbers, and bytes that are copied. Assumes nothing.
 use mathlib.Core.Path.{◌≡◌, refl, ap, ◌∙◌}
-use mathlib.Core.List.{List, ◌++◌, append_assoc}
+use mathlib.Core.List.{List, [], ◌++◌, append_assoc, append-nil}
 use Prim.Native.Nat.{ℕ, ◌+◌, ◌-◌, ◌≤◌}
 use native.Mathlib.Omega.{arith}
-use lib.ListN.{length, length-append}
+use lib.ListN.{length, take, drop, length-append, drop_of_length-le}
 use lib.Seq.{drop-drop}
+use native.Mathlib.Nat.{zero-add}
 use borrow.Rule.Slice.PartMut.{put_mid}
+use Rattle.std.proofs.lemmas.List.{take_rest}
 use Rattle.showfile.specs.Bytes.{word_bytes, four_bytes, over}
 use Rattle.showfile.proofs.ByteLaws.{over_then}
 
--- bytes that are copied into a part
-pub part_over : (b : List ℕ) (at : ℕ) (vs : List ℕ) → put_mid at (at + length vs - at) b vs ≡ over b at vs
+-- what is put at the front of a part that goes to the end
+pub rest_over :
+    (b : List ℕ) (at : ℕ) {new : List ℕ} (vs : List ℕ) → new ≡ over (take (length b - at) (drop at b)) 0 vs →
+    put_mid at (length b - at) b new ≡ over b at vs
 unfolding over
-part_over b at vs = let e : at + length vs - at ≡ length vs = omega arith in rw (e, drop-drop (length vs) at b) refl
+rest_over b at vs e =
+    let past : drop (at + (length b - at)) b ≡ [] = drop_of_length-le b (omega arith) in
+    let front : take 0 (drop at b) ≡ [] = refl in
+    rw (e, take_rest b at, drop-drop (length b - at) at b, past, append-nil, zero-add (length vs), drop-drop (length vs) at b) refl
 
 -- ---- four numbers
 
@@ -26,11 +33,11 @@ four_length p q r s = refl
 
 -- four words, one after the other
 pub four_words :
-    (b : List ℕ) {b₁ b₂ b₃ b₄ : List ℕ} (at p q r s : ℕ) → at + 16 ≤ length b → b₁ ≡ over b at (word_bytes p) →
-    b₂ ≡ over b₁ (at + 4) (word_bytes q) → b₃ ≡ over b₂ (at + 8) (word_bytes r) → b₄ ≡ over b₃ (at + 12) (word_bytes s) →
-    b₄ ≡ over b at (four_bytes p q r s)
+    (b : List ℕ) {b₁ b₂ b₃ b₄ : List ℕ} (p q r s : ℕ) → 16 ≤ length b → b₁ ≡ over b 0 (word_bytes p) →
+    b₂ ≡ over b₁ 4 (word_bytes q) → b₃ ≡ over b₂ 8 (word_bytes r) → b₄ ≡ over b₃ 12 (word_bytes s) →
+    b₄ ≡ over b 0 (four_bytes p q r s)
 unfolding four_bytes
-four_words b at p q r s h e₁ e₂ e₃ e₄ =
+four_words b p q r s h e₁ e₂ e₃ e₄ =
     let u = word_bytes p in
     let v = word_bytes q in
     let w = word_bytes r in
@@ -41,7 +48,7 @@ four_words b at p q r s h e₁ e₂ e₃ e₄ =
     let one : length u ≡ 4 = word_length p in
     let lv : length v ≡ 4 = word_length q in
     let lw : length w ≡ 4 = word_length r in
-    over_then b at (u ++ v ++ w) (at + 12) x
-    (over_then b at (u ++ v) (at + 8) w (over_then b at u (at + 4) v e₁ e₂ (omega arith) (omega arith)) e₃ (omega arith) (omega arith))
+    over_then b 0 (u ++ v ++ w) 12 x
+    (over_then b 0 (u ++ v) 8 w (over_then b 0 u 4 v e₁ e₂ (omega arith) (omega arith)) e₃ (omega arith) (omega arith))
     e₄ (omega arith) (omega arith)
-    ∙ ap (λ (t : List ℕ). over b at t) (simp append_assoc)
+    ∙ ap (λ (t : List ℕ). over b 0 t) (simp append_assoc)

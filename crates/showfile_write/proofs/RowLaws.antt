@@ -35,18 +35,18 @@ module _ {A : Type 0} (bytes : A → List ℕ) where
     taken_length n l h = bytes_length (take n l) ∙ ap (λ (k : ℕ). k * 16) (length-take-le n l h)
 
   -- a row that is written from the front, a record a turn: what is written of it, and how long that is
-  pub written_none : (b : List ℕ) (at : ℕ) (l : List A) → (b ≡ over b at (row_bytes bytes (take 0 l))) × (length (row_bytes bytes (take 0 l)) ≡ 0)
+  pub written_none : (b : List ℕ) (l : List A) → (b ≡ over b 0 (row_bytes bytes (take 0 l))) × (length (row_bytes bytes (take 0 l)) ≡ 0)
   unfolding row_bytes
-  written_none b at l = (over_nothing b at, refl)
+  written_none b l = (over_nothing b 0, refl)
 
   pub written_more :
-      (b₀ : List ℕ) {b b' : List ℕ} (at i : ℕ) (l : List A) (a : A) → i < length l → a ≡ get_or l i a → length (bytes a) ≡ 16 →
-      at + i * 16 + 16 ≤ length b₀ → b ≡ over b₀ at (row_bytes bytes (take i l)) → length (row_bytes bytes (take i l)) ≡ i * 16 →
-      b' ≡ over b (at + i * 16) (bytes a) →
-      (b' ≡ over b₀ at (row_bytes bytes (take (i + 1) l))) × (length (row_bytes bytes (take (i + 1) l)) ≡ (i + 1) * 16)
-  written_more b₀ at i l a hi ea sixteen hb e done e' =
+      (b₀ : List ℕ) {b b' : List ℕ} (i : ℕ) (l : List A) (a : A) → i < length l → a ≡ get_or l i a → length (bytes a) ≡ 16 →
+      i * 16 + 16 ≤ length b₀ → b ≡ over b₀ 0 (row_bytes bytes (take i l)) → length (row_bytes bytes (take i l)) ≡ i * 16 →
+      b' ≡ over b (i * 16) (bytes a) →
+      (b' ≡ over b₀ 0 (row_bytes bytes (take (i + 1) l))) × (length (row_bytes bytes (take (i + 1) l)) ≡ (i + 1) * 16)
+  written_more b₀ i l a hi ea sixteen hb e done e' =
       let more : row_bytes bytes (take (i + 1) l) ≡ row_bytes bytes (take i l) ++ bytes a =
       bytes_more l i a hi ∙ ap (λ (x : A). row_bytes bytes (take i l) ++ bytes x) (sym ea) in (
-        rw more (over_then b₀ at (row_bytes bytes (take i l)) (at + i * 16) (bytes a) e e' (omega arith) (omega arith)),
+        rw more (over_then b₀ 0 (row_bytes bytes (take i l)) (i * 16) (bytes a) e e' (omega arith) (omega arith)),
         rw more (length-append (row_bytes bytes (take i l)) (bytes a) ∙ omega arith),
       )

@@ -10,7 +10,6 @@ ghost use Rattle.show.specs.Limits.{CountsWithin};
 ghost use Rattle.showfile.specs.File.{file_of};
 ghost use Rattle.showfile_write.specs.Answers.{write_check, written_of, buffer_of};
 
-use crate::bytes::put_bytes;
 use crate::rows::put_rows;
 use crate::trailer::{put_trailer, trailer_of};
 use show::Show;
@@ -45,10 +44,10 @@ fn put_file(show: Show, note: &[u8], buffer: &mut [u8]) -> usize
     let first = note.len();
     let second = first + show.laid * 16;
     let third = second + show.playing * 16;
-    put_bytes(buffer, 0, note);
-    put_rows(buffer, first, &show.layouts[..show.laid]);
-    put_rows(buffer, second, &show.sessions[..show.playing]);
-    put_trailer(buffer, third, trailer_of(show));
+    buffer[..first].copy_from_slice(note);
+    put_rows(&mut buffer[first..], &show.layouts[..show.laid]);
+    put_rows(&mut buffer[second..], &show.sessions[..show.playing]);
+    put_trailer(&mut buffer[third..], trailer_of(show));
     third + Trailer::LENGTH
 }
 

@@ -1,5 +1,5 @@
 // The last twenty bytes of a file that is written.
-ghost use Rattle.std.specs.Prelude.{◌≡◌, ◌+◌, ◌≤◌, length};
+ghost use Rattle.std.specs.Prelude.{◌≡◌, ◌≤◌, length};
 ghost use Rattle.show.specs.Limits.{CountsWithin};
 ghost use Rattle.showfile.specs.Bytes.{over};
 ghost use Rattle.showfile.specs.File.{trailer_bytes, trailer_for};
@@ -22,14 +22,14 @@ pub(crate) fn trailer_of(show: Show) -> Trailer
     }
 }
 
-pub(crate) fn put_trailer(b: &mut [u8], at: usize, t: Trailer)
-    requires { at + 20 ≤ length b.old }
-    ensures { b.new ≡ over b.old at (trailer_bytes t) }
+pub(crate) fn put_trailer(b: &mut [u8], t: Trailer)
+    requires { 20 ≤ length b.old }
+    ensures { b.new ≡ over b.old 0 (trailer_bytes t) }
 {
-    put_word(b, at, t.drive.block);
-    put_word(b, at + 4, t.drive.cylinder);
-    put_half(b, at + 8, t.laid);
-    put_half(b, at + 10, t.playing);
-    put_word(b, at + 12, t.far);
-    put_word(b, at + 16, t.near);
+    put_word(b, t.drive.block);
+    put_word(&mut b[4..], t.drive.cylinder);
+    put_half(&mut b[8..], t.laid);
+    put_half(&mut b[10..], t.playing);
+    put_word(&mut b[12..], t.far);
+    put_word(&mut b[16..], t.near);
 }

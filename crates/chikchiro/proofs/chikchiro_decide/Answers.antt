@@ -1,4 +1,8 @@
-use Rattle.showfile.proofs.ByteLaws.{one_over}
+use Rattle.showfile.proofs.ByteLaws.{one_over, part_over}
+use Rattle.show.proofs.Lists.{unmapped}
+use borrow.Author.Rules.{rules}
+use mathlib.Core.Path.{◌≡◌}
+use lib.ListN.{length}
 use native.Mathlib.Omega.{arith}
 use Rattle.chikchiro.proofs.Answers.{decision_small, decided_no, decided_yes}
 use Rattle.chikchiro.specs.Answers.{short, slices}
@@ -28,7 +32,10 @@ returns-in-Err c =
 
 pub returns : goal.returns
 returns c =
-    decided_yes _ (slices c.args.counts.now c.args.times.now c.args.round.now) c.decided-decision.result
+    let d = c.decided-decision.result in
+    let counts : length d.counts ≡ 16 = search (unmapped, rules) in
+    let times : length d.times ≡ 16 = search (unmapped, rules) in
+    decided_yes _ (slices c.args.counts.now c.args.times.now c.args.round.now) d
     (record { counts = c.if-counts-lt16.false; times = c.if-times-lt16.false; round = c.if-round-lt1.false }) c.decided-decision.ensures
-    c.in_default.is
-    c.put_counts.ensures c.put_times.ensures (one_over _ 0 _ c.if-round-lt1.false)
+    c.in_default.is (rw c.copy_from_slice.ensures.after (part_over c.args.counts.now 0 16 d.counts counts))
+    (rw c.copy_from_slice-2.ensures.after (part_over c.args.times.now 0 16 d.times times)) (one_over _ 0 _ c.if-round-lt1.false)

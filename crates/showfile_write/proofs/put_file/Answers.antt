@@ -1,9 +1,11 @@
 -- `put_file` writes the four parts, one after the other. Assumes nothing.
 use Prim.Native.Nat.{◌≤◌}
-use mathlib.Core.Path.{◌≡◌}
+use mathlib.Core.Path.{◌≡◌, refl}
 use native.Mathlib.Omega.{arith}
 use lib.ListN.{length}
 use Rattle.show.proofs.Lists.{unmapped}
+use Rattle.showfile.proofs.ByteLaws.{part_over}
+use Rattle.showfile_write.proofs.ByteLaws.{rest_over}
 use Rattle.showfile_write.proofs.Sizes.{shown_length}
 use Rattle.showfile_write.proofs.Filed.{file_filed}
 use borrow.Author.Rules.{rules}
@@ -19,6 +21,7 @@ returns c =
     let size = shown_length c.args.show c.args.note.now eight sixteen counts in
     record {
       value = omega arith;
-      buffer_after = file_filed _ _ _ laid playing (omega arith) c.put_bytes.ensures c.put_rows.ensures c.put_rows-2.ensures
-          (rw (← c.trailer_of.ensures) c.put_trailer.ensures);
+      buffer_after = file_filed _ _ _ laid playing (omega arith) (rw c.copy_from_slice.ensures.after (part_over _ 0 _ c.args.note.now refl))
+          (rest_over _ _ _ c.put_rows.ensures) (rest_over _ _ _ c.put_rows-2.ensures)
+          (rest_over _ _ _ (rw (← c.trailer_of.ensures) c.put_trailer.ensures));
     }

@@ -7,4 +7,4 @@ use Rattle.showfile_write.proofs.rows.put_rows.Given as goal
 
 abbrev pub invariant-loop-i : goal.invariant-loop-i
 invariant-loop-i g l =
-    let written = row_bytes g.R.Row.bytes (take l.i l.row) in (l.b ≡ over l.initial.b l.at written) × (length written ≡ l.i * 16)
+    let written = row_bytes g.R.Row.bytes (take l.i l.row) in (l.b ≡ over l.initial.b 0 written) × (length written ≡ l.i * 16)
