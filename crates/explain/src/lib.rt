@@ -17,8 +17,7 @@ use showfile::Written;
 // No text is longer.
 pub const TEXT_MOST: usize = 256;
 
-fn put_refusal(out: &mut [u8], why: Refusal) -> usize
-    requires { said_most ≤ length out.old }
+fn put_refusal(out: &mut [u8; TEXT_MOST], why: Refusal) -> usize
     ensures { Put out.old 0 (refusal_text why) out.new result }
 {
     let told = why.told();
@@ -35,8 +34,11 @@ fn put_refusal(out: &mut [u8], why: Refusal) -> usize
 }
 
 // The text of a show that is within its limits, or of one that is not.
-fn put_reason(out: &mut [u8], reason: Result<Option<Reason>, Refusal>, tenths: u64) -> usize
-    requires { said_most ≤ length out.old }
+fn put_reason(
+    out: &mut [u8; TEXT_MOST],
+    reason: Result<Option<Reason>, Refusal>,
+    tenths: u64,
+) -> usize
     ensures { Put out.old 0 (reason_text reason tenths) out.new result }
 {
     match reason {
@@ -52,8 +54,7 @@ fn put_reason(out: &mut [u8], reason: Result<Option<Reason>, Refusal>, tenths: u
     }
 }
 
-fn put_found(out: &mut [u8], reason: Reason, tenths: u64) -> usize
-    requires { said_most ≤ length out.old }
+fn put_found(out: &mut [u8; TEXT_MOST], reason: Reason, tenths: u64) -> usize
     ensures { Put out.old 0 (reason_text (Ok (Some reason)) tenths) out.new result }
 {
     match reason {
@@ -70,20 +71,15 @@ fn put_found(out: &mut [u8], reason: Reason, tenths: u64) -> usize
 }
 
 // The text for a file, into a buffer that takes every text.
-fn put_text(file: &[u8], out: &mut [u8]) -> usize
-    requires { said_most ≤ length out.old }
+fn put_text(file: &[u8], out: &mut [u8; TEXT_MOST]) -> usize
     ensures { Texted (SaidIs file.now) out.old out.new result }
 {
     let got = showfile::read(file);
-    let check = got.check;
-    if let Err(why) = check {
+    if let Err(why) = got.check {
         return put_refusal(out, why);
     }
-    let show = got.show;
-    let reason = reason::why(show);
-    let loaded = reason::load(show);
-    match loaded {
-        Ok(tenths) => put_reason(out, reason, tenths),
+    match reason::load(got.show) {
+        Ok(tenths) => put_reason(out, reason::why(got.show), tenths),
         Err(why) => put_refusal(out, why),
     }
 }
@@ -93,12 +89,12 @@ pub fn explain(file: &[u8], buffer: &mut [u8]) -> Written
     ensures explain_is { ExplainIs file.now buffer.old result buffer.new }
     ensures len_in_bounds { result.len ≤ length buffer.new }
 {
-    if buffer.len() < TEXT_MOST {
+    let Some(out) = buffer.first_chunk_mut::<TEXT_MOST>() else {
         return Written {
             check: Err(Refusal::BufferShort),
             len: 0,
         };
-    }
-    let len = put_text(file, buffer);
+    };
+    let len = put_text(file, out);
     Written { check: Ok(()), len }
 }

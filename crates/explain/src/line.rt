@@ -4,6 +4,7 @@ ghost use Rattle.text.specs.Puts.{put_over, put_to, FitsAt, Put};
 ghost use Rattle.explain.specs.Text.{load_text, beyond_text, buffer_text, layout_text, clip_text, sentence};
 ghost use Rattle.explain.specs.Answers.{said_most};
 
+use crate::TEXT_MOST;
 use show::Session;
 use show::refusal::Told;
 
@@ -15,8 +16,7 @@ pub(crate) fn put_load(out: &mut [u8], at: usize, before: &[u8], tenths: u64, af
     text::put_paired(out, at, before, tenths / 10, b".", tenths % 10, after)
 }
 
-pub(crate) fn put_beyond(out: &mut [u8], tenths: u64) -> usize
-    requires { said_most ≤ length out.old }
+pub(crate) fn put_beyond(out: &mut [u8; TEXT_MOST], tenths: u64) -> usize
     ensures { Put out.old 0 (beyond_text tenths) out.new result }
 {
     let most = put_load(
@@ -35,8 +35,7 @@ pub(crate) fn put_beyond(out: &mut [u8], tenths: u64) -> usize
     )
 }
 
-pub(crate) fn put_buffer(out: &mut [u8], session: u64, size: u64, tenths: u64) -> usize
-    requires { said_most ≤ length out.old }
+pub(crate) fn put_buffer(out: &mut [u8; TEXT_MOST], session: u64, size: u64, tenths: u64) -> usize
     ensures { Put out.old 0 (buffer_text session size tenths) out.new result }
 {
     let clip = text::put_paired(out, 0, b"buffer ", session, b" ", size, b"\nClip ");

@@ -30,8 +30,7 @@ fn put_four(out: &mut [u8], at: usize, a: u64, b: u64, c: u64, d: u64) -> usize
     text::put_numbered(out, fourth, b"", d, b"\n")
 }
 
-fn put_refusal(out: &mut [u8], why: Refusal) -> usize
-    requires { text_most ≤ length out.old }
+fn put_refusal(out: &mut [u8; TEXT_MOST], why: Refusal) -> usize
     ensures { Put out.old 0 (refused_text why) out.new result }
 {
     let told = why.told();
@@ -104,8 +103,7 @@ fn put_accepted(out: &mut [u8], show: Show, decision: Decision) -> usize
 }
 
 // The text for a file, into a buffer that takes every text.
-fn put_text(file: &[u8], out: &mut [u8]) -> usize
-    requires { text_most ≤ length out.old }
+fn put_text(file: &[u8], out: &mut [u8; TEXT_MOST]) -> usize
     ensures { Texted (TextIs file.now) out.old out.new result }
 {
     let got = showfile::read(file);
@@ -124,12 +122,12 @@ pub fn report(file: &[u8], buffer: &mut [u8]) -> Written
     ensures report_is { ReportIs file.now buffer.old result buffer.new }
     ensures len_in_bounds { result.len ≤ length buffer.new }
 {
-    if buffer.len() < TEXT_MOST {
+    let Some(out) = buffer.first_chunk_mut::<TEXT_MOST>() else {
         return Written {
             check: Err(Refusal::BufferShort),
             len: 0,
         };
-    }
-    let len = put_text(file, buffer);
+    };
+    let len = put_text(file, out);
     Written { check: Ok(()), len }
 }

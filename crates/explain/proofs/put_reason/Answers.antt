@@ -1,9 +1,7 @@
 -- The words of each reason. Assumes nothing.
+use native.Mathlib.Omega.{arith}
 use Rattle.std.specs.Prelude.{Ok, None}
-use mathlib.Core.Path.{◌≡◌, sym, ap, ◌∙◌}
-use mathlib.Core.List.{List}
-use Prim.Native.Nat.{ℕ}
-use Rattle.text.specs.Puts.{Put}
+use mathlib.Core.Path.{sym, ap, ◌∙◌}
 use Rattle.text.proofs.Puts.{put_as}
 use Rattle.reason.specs.Answers.{Reasoned}
 use Rattle.explain.specs.Text.{reason_text}
@@ -12,7 +10,7 @@ use Rattle.explain.proofs.put_reason.Goals as goal
 
 pub put_load-requires : goal.put_load-requires
 put_load-requires c =
-    reason_room _ c.requires (Ok None) c.args.tenths
+    reason_room c.args.out.now (omega arith) (Ok None) c.args.tenths
 
 pub returns-in-Ok-None : goal.returns-in-Ok-None
 returns-in-Ok-None c =

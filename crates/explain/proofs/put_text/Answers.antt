@@ -10,11 +10,10 @@ pub returns-in-Ok : goal.returns-in-Ok
 returns-in-Ok c =
     record {
       text = _;
-      holds = told_reason _ c.read-got.result c.read-got.ensures c.in_default.is c.load-loaded.result c.load-loaded.ensures _ _ c.in-Ok.is
-          c.why-reason.ensures;
+      holds = told_reason _ c.read-got.result c.read-got.ensures c.in_default.is c.load.result c.load.ensures _ _ c.in-Ok.is c.why.ensures;
       put = c.put_reason.ensures;
     }
 
-pub returns-in-Err-loaded : goal.returns-in-Err-loaded
-returns-in-Err-loaded c =
-    never_refused _ c.read-got.result c.read-got.ensures c.in_default.is c.load-loaded.result c.load-loaded.ensures _ c.in-Err-loaded.is
+pub returns-in-Err-load : goal.returns-in-Err-load
+returns-in-Err-load c =
+    never_refused _ c.read-got.result c.read-got.ensures c.in_default.is c.load.result c.load.ensures _ c.in-Err-load.is

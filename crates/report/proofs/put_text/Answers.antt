@@ -1,4 +1,5 @@
 -- A file that is no show's, a show with no set, or the smallest set. Assumes nothing.
+use native.Mathlib.Omega.{arith}
 use Rattle.report.proofs.Texts.{told_unread, told_yes, told_no}
 use Rattle.report.proofs.Sizes.{text_room}
 use Rattle.report.proofs.put_text.Goals as goal
@@ -28,7 +29,7 @@ put_accepted-requires c =
     record {
       timed = y.timed;
       round_value = y.round;
-      fits_at = text_room _ _ _ y.told c.requires;
+      fits_at = text_room _ _ c.args.out.now y.told (omega arith);
     }
 
 pub returns : goal.returns
