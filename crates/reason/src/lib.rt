@@ -3,7 +3,7 @@
 
 mod work;
 
-ghost use Rattle.std.specs.Prelude.{◌≡◌};
+ghost use Rattle.std.specs.Prelude.{◌≡◌, Ok};
 ghost use Rattle.show.specs.Limits.{ShowWithin, buffer_most};
 ghost use Rattle.verdict.specs.Answers.{set_of};
 ghost use Rattle.theory.specs.Counts.{Smallest};
@@ -28,79 +28,57 @@ pub enum Reason {
 pub fn why(show: Show) -> Result<Option<Reason>, Refusal>
     ensures { ReasonIs show result }
 {
-    let check = show.check();
-    if let Err(why) = check {
-        return Err(why);
-    }
-    let work = weigh(show);
+    show.check()?;
+    let work = weigh(&show);
     if 1 <= work.whole {
         return Ok(Some(Reason::Overload));
     }
-    let decision = verdict::decide(widest(show));
-    let verdict = decision.verdict;
-    let counts = decision.counts;
-    let Ok(()) = verdict else {
+    let decision = verdict::decide(widest(&show));
+    let Ok(()) = decision.verdict else {
         return Ok(Some(Reason::Beyond));
     };
-    lowest_short(show, counts)
+    Ok(lowest_short(&show, &decision.counts))
 }
 
 // The show with every buffer as large as there is.
-fn widest(show: Show) -> Show
-    requires { ShowWithin show }
-    ensures { result ≡ widest_of show }
+fn widest(show: &Show) -> Show
+    requires { ShowWithin show.now }
+    ensures { result ≡ widest_of show.now }
 {
-    let nothing = Show::nothing();
-    let mut sessions = nothing.sessions;
-    let mut i = 0;
-    while i < show.playing {
-        let session = show.sessions[i];
+    let mut sessions = Show::nothing().sessions;
+    for i in 0..show.playing {
         sessions[i] = Session {
-            rate: session.rate,
-            cushion: session.cushion,
             buffer: Session::BUFFER_MOST,
-            layout: session.layout,
+            ..show.sessions[i]
         };
-        i += 1;
     }
-    Show {
-        drive: show.drive,
-        layouts: show.layouts,
-        laid: show.laid,
-        sessions,
-        playing: show.playing,
-    }
+    Show { sessions, ..*show }
 }
 
 // The first session whose count does not fit its buffer.
-fn lowest_short(show: Show, counts: [u32; 16]) -> Result<Option<Reason>, Refusal>
-    requires show_within { ShowWithin show }
-    requires smallest { Smallest (widened buffer_most (load_of show)) (set_of counts) }
-    ensures { ReasonIs show result }
+fn lowest_short(show: &Show, counts: &[u32; 16]) -> Option<Reason>
+    requires show_within { ShowWithin show.now }
+    requires smallest { Smallest (widened buffer_most (load_of show.now)) (set_of counts.now) }
+    ensures { ReasonIs show.now (Ok result) }
 {
     let block = show.drive.block as u64;
-    let mut i = 0;
-    while i < show.playing {
+    for i in 0..show.playing {
         let session = show.sessions[i];
         let blocks = (counts[i] as u64 + 1) * block;
         let size = blocks + session.cushion as u64;
         if (session.buffer as u64) < size {
-            return Ok(Some(Reason::Buffer { session: i, size }));
+            return Some(Reason::Buffer { session: i, size });
         }
-        i += 1;
     }
-    Ok(None)
+    None
 }
 
 // The load of the drive: 2, 5, 6, 7, then the tenths of a per cent.
 pub fn load(show: Show) -> Result<u64, Refusal>
     ensures { result ≡ loaded_of show }
 {
-    let check = show.check();
-    if let Err(why) = check {
-        return Err(why);
-    }
-    let work = weigh(show);
+    show.check()?;
+    let work = weigh(&show);
     let whole = work.whole * 1_000;
     let part = work.part * 1_000 / work.full;
     Ok(whole + part)

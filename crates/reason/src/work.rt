@@ -23,28 +23,26 @@ pub(crate) struct Work {
     pub part: u64,
 }
 
-fn add_up(show: Show) -> Sums
-    requires { ShowWithin show }
-    ensures { (result ≡ sums_of show) × SumsSmall result }
+fn add_up(show: &Show) -> Sums
+    requires { ShowWithin show.now }
+    ensures { (result ≡ sums_of show.now) × SumsSmall result }
 {
     let mut blocks: u64 = 0;
     let mut edges: u64 = 0;
-    let mut i: usize = 0;
-    while i < show.playing {
+    for i in 0..show.playing {
         let session = show.sessions[i];
         let at = session.layout as usize;
         let cost = Cost::of_read(show.layouts[at]);
         let rate = session.rate as u64;
         blocks += rate * cost.each;
         edges += rate * cost.cross;
-        i += 1;
     }
     Sums { blocks, edges }
 }
 
-pub(crate) fn weigh(show: Show) -> Work
-    requires { ShowWithin show }
-    ensures { (result ≡ work_of (load_of show)) × WorkSmall result }
+pub(crate) fn weigh(show: &Show) -> Work
+    requires { ShowWithin show.now }
+    ensures { (result ≡ work_of (load_of show.now)) × WorkSmall result }
 {
     let sums = add_up(show);
     let cylinder = show.drive.cylinder as u64;

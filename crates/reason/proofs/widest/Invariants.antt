@@ -1,10 +1,6 @@
--- `widest` fills a row of sessions. Invariant: the first i stand there, zeros above; what falls: playing - i. Assumes nothing.
-use Prim.Native.Nat.{◌-◌}
+-- `widest` fills a row of sessions. Invariant: the first i stand there, zeros above. Assumes nothing.
 use Rattle.reason.proofs.Wide.{WideTo}
 use Rattle.reason.proofs.widest.Given as goal
 
 abbrev pub invariant-loop-i : goal.invariant-loop-i
 invariant-loop-i l = WideTo l.show l.sessions l.i
-
-abbrev pub decreases-loop-i : goal.decreases-loop-i
-decreases-loop-i l = l.show.playing - l.i
