@@ -3,13 +3,15 @@
 use Prim.Native.Nat.{ℕ, ◌+◌, ◌-◌, ◌^◌, ◌≤◌, ◌<◌}
 use mathlib.Core.Path.{◌≡◌, refl, sym, ap, subst, ◌∙◌}
 use mathlib.Core.Logic.{ite, if_pos, if_neg}
+use mathlib.Core.Bool.{Bool, true, false, cond}
 use mathlib.Core.List.{List}
 use native.Mathlib.Decide.{dec_le, dec_lt}
 use native.Mathlib.Nat.{le_of_lt, le_of_eq, mul-le-mul_right}
 use native.Mathlib.Omega.{arith}
 use lib.IntN.{ℤ, pos, ◌-ℤ◌}
 use lib.ListN.{length, get_or}
-use lib.Signed.{◌≤ℤ◌, ◌<ℤ◌}
+use lib.Signed.{◌≤ℤ◌, ◌<ℤ◌, lt_z}
+use Rattle.std.specs.Int.{int_min}
 use Rattle.cost.specs.Bound.{worst_most}
 use Rattle.theory.specs.Sum.{sum_where}
 use Rattle.theory.specs.Slack.{least_to, load_by, spare_by, slack_by}
@@ -21,7 +23,7 @@ use Rattle.run.proofs.Orders.{names_below}
 use Rattle.standing.specs.declared.Standing.{Standing}
 use Rattle.order.specs.Order.{named, ahead_in, place_in}
 use Rattle.standing.specs.Standing.{Fit, spare_in, standing_slack}
-use Rattle.order.proofs.Orders.{named_back}
+use Rattle.order.proofs.Orders.{named_back, test_less, test_not}
 use Rattle.standing.proofs.Named.{named_each}
 
 -- ---- in any order: session i stands at p i, and e k stands at place k
@@ -170,7 +172,7 @@ module _ (s : Standing) (o : List ℕ) (h : Seated (place_in s.places) (seat_in 
     spare : x ≡ spare_in s (seat_in o k)
     spare = turn_spare k _ x l (turn_next sum k l t.times) g
 
-    pub turned_less : x <ℤ least → LeastTo s o (sum + set_of s.times (seat_in o k)) x (k + 1)
+    turned_less : x <ℤ least → LeastTo s o (sum + set_of s.times (seat_in o k)) x (k + 1)
     turned_less b =
         record {
           some = omega arith;
@@ -179,7 +181,7 @@ module _ (s : Standing) (o : List ℕ) (h : Seated (place_in s.places) (seat_in 
           is = spare ∙ sym (least_less (λ m. spare_in s (seat_in o m)) k t.some (rw (spare, t.is) at b));
         }
 
-    pub turned_more : (x <ℤ least → ⊥) → LeastTo s o (sum + set_of s.times (seat_in o k)) least (k + 1)
+    turned_more : (x <ℤ least → ⊥) → LeastTo s o (sum + set_of s.times (seat_in o k)) least (k + 1)
     turned_more b =
         record {
           some = omega arith;
@@ -187,6 +189,14 @@ module _ (s : Standing) (o : List ℕ) (h : Seated (place_in s.places) (seat_in 
           times = turn_next sum k l t.times;
           is = t.is ∙ sym (least_more (λ m. spare_in s (seat_in o m)) k t.some (rw (spare, t.is) at b));
         }
+
+    -- whichever is less
+    pub turned : (y : ℤ) → y ≡ int_min least x → LeastTo s o (sum + set_of s.times (seat_in o k)) y (k + 1)
+    turned y e = rw e (by_test (lt_z x least) refl)
+      where
+        by_test : (b : Bool) → lt_z x least ≡ b → LeastTo s o (sum + set_of s.times (seat_in o k)) (cond b x least) (k + 1)
+        by_test true b = turned_less (test_less b)
+        by_test false b = turned_more (test_not b)
 
   pub turned_all : (sum : ℕ) (least : ℤ) (k : ℕ) → LeastTo s o sum least k → s.playing ≤ k → least ≡ standing_slack s
   turned_all sum least k t l =

@@ -12,14 +12,7 @@ use show::Show;
 pub(crate) fn is_fit(s: Standing) -> bool
     ensures { Tells result (Fit s) }
 {
-    if Show::PLAYING_MOST < s.playing {
-        return false;
-    }
-    if !all_small(s) {
-        return false;
-    }
-    let places = s.places;
-    apart(places, s.playing)
+    s.playing <= Show::PLAYING_MOST && all_small(s) && apart(s.places, s.playing)
 }
 
 // Whether the numbers of each session are small.
@@ -27,12 +20,10 @@ fn all_small(s: Standing) -> bool
     requires { s.playing ≤ 16 }
     ensures { Tells result (SmallTo s s.playing) }
 {
-    let mut i: usize = 0;
-    while i < s.playing {
+    for i in 0..s.playing {
         if !one_small(s.times[i], s.aheads[i], s.places[i], s.playing) {
             return false;
         }
-        i += 1;
     }
     true
 }
@@ -40,29 +31,14 @@ fn all_small(s: Standing) -> bool
 fn one_small(time: u64, ahead: i64, place: usize, playing: usize) -> bool
     ensures { Tells result (Small time ahead place playing) }
 {
-    if 10_000_000_000_000 <= time {
-        return false;
-    }
-    if !near(ahead) {
-        return false;
-    }
-    if playing <= place {
-        return false;
-    }
-    true
+    time < 10_000_000_000_000 && near(ahead) && place < playing
 }
 
 // From -2^62 to 2^62 - 1.
 fn near(ahead: i64) -> bool
     ensures { Tells result (mag ahead < 2 ^ 62) }
 {
-    if ahead < -4_611_686_018_427_387_904 {
-        return false;
-    }
-    if 4_611_686_018_427_387_904 <= ahead {
-        return false;
-    }
-    true
+    (-4_611_686_018_427_387_904..4_611_686_018_427_387_904).contains(&ahead)
 }
 
 // Whether no two stand at one place: each is found at its own, once all are seated.
@@ -70,16 +46,11 @@ fn apart(places: [usize; 16], playing: usize) -> bool
     requires { (playing ≤ 16) × PlacedBelow places playing }
     ensures { Tells result (PlacedApart places playing) }
 {
-    let none: [u32; 16] = [0; 16];
-    let seats = ordered(none, places, playing);
-    let mut i: usize = 0;
-    while i < playing {
-        let place = places[i];
-        let seat = seats[place] as usize;
-        if seat != i {
+    let seats = ordered([0; 16], places, playing);
+    for i in 0..playing {
+        if seats[places[i]] as usize != i {
             return false;
         }
-        i += 1;
     }
     true
 }

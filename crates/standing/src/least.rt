@@ -20,22 +20,14 @@ pub(crate) fn least(s: Standing) -> i64
     requires playing_nonzero { 0 < s.playing }
     ensures { result ≡ standing_slack s }
 {
-    let none: [u32; 16] = [0; 16];
-    let places = s.places;
-    let seats = ordered(none, places, s.playing);
+    let seats = ordered([0; 16], s.places, s.playing);
     let first = seats[0] as usize;
     let mut sum = s.times[first];
     let mut least = net(s.aheads[first], sum);
-    let mut k: usize = 1;
-    while k < s.playing {
+    for k in 1..s.playing {
         let i = seats[k] as usize;
-        let load = sum + s.times[i];
-        let spare = net(s.aheads[i], load);
-        if spare < least {
-            least = spare;
-        }
-        sum = load;
-        k += 1;
+        sum += s.times[i];
+        least = least.min(net(s.aheads[i], sum));
     }
     least
 }

@@ -28,6 +28,7 @@ pub struct Standing {
 }
 
 // How the sessions stand, or why that is not told.
+// A struct and no Result: theorem Empty (crates/promises/specs/Refusals.antt) says which standing stands beside a refusal.
 #[derive(Clone, Copy)]
 pub struct Stood {
     pub check: Result<(), Refusal>,
@@ -35,6 +36,7 @@ pub struct Stood {
 }
 
 // In increasing workahead: 19. The record is tested here, so that those who ask more of the standing need not test it again.
+#[tactic(auto, unfolding(crate::specs::Answers::stood_of))]
 pub fn stand(run: Run) -> Stood
     ensures { result ≡ stood_of run }
 {
@@ -46,11 +48,12 @@ pub fn stand(run: Run) -> Stood
     };
     Stood {
         check: Ok(()),
-        standing: survey(run),
+        standing: survey(&run),
     }
 }
 
 // What a standing has to spare, each session at its place: 19 where a number is too large or two share a place, 9.
+#[tactic(auto, unfolding(crate::specs::Answers::slack_for))]
 pub fn slack_in(standing: Standing) -> Result<i64, Refusal>
     ensures { result ≡ slack_for standing }
 {
@@ -75,18 +78,16 @@ fn nobody() -> Standing
     }
 }
 
-fn survey(run: Run) -> Standing
-    requires { SoundRun run }
-    ensures { result ≡ standing_of run }
+fn survey(run: &Run) -> Standing
+    requires { SoundRun run.now }
+    ensures { result ≡ standing_of run.now }
 {
-    let show = run.show;
-    let counts = run.counts;
-    let trial = tried(show, counts);
-    let times = trial.times;
+    let playing = run.show.playing;
     let aheads = aheads(run);
-    let places = places(aheads, show.playing);
+    let times = tried(run.show, run.counts).times;
+    let places = places(aheads, playing);
     Standing {
-        playing: show.playing,
+        playing,
         aheads,
         times,
         places,
@@ -94,19 +95,13 @@ fn survey(run: Run) -> Standing
 }
 
 // The workahead of each session, zeros above.
-fn aheads(run: Run) -> [i64; 16]
-    requires { SoundRun run }
-    ensures { result ≡ aheads_of run }
+fn aheads(run: &Run) -> [i64; 16]
+    requires { SoundRun run.now }
+    ensures { result ≡ aheads_of run.now }
 {
-    let show = run.show;
-    let mut aheads: [i64; 16] = [0; 16];
-    let mut i: usize = 0;
-    while i < show.playing {
-        let Ok(ahead) = ahead_of(show.sessions[i], run.states[i]) else {
-            return aheads;
-        };
-        aheads[i] = ahead;
-        i += 1;
+    let mut aheads = [0; 16];
+    for i in 0..run.show.playing {
+        aheads[i] = ahead_of(run.show.sessions[i], run.states[i]).unwrap_or(0);
     }
     aheads
 }

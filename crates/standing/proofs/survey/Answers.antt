@@ -4,12 +4,8 @@ use mathlib.Core.Path.{◌∙◌}
 use Rattle.order.proofs.Orders.{placed_few}
 use Rattle.standing.proofs.survey.Goals as goal
 
-pub aheads-aheads-requires : goal.aheads-aheads-requires
-aheads-aheads-requires c =
-    c.requires
-
 pub returns : goal.returns
 returns c =
-    surveyed c.args.run _ _ _ c.aheads-aheads.ensures
-    (trial_times c.args.run c.requires _ c.tried-trial.ensures)
+    surveyed c.args.run.now _ _ _ c.aheads-aheads.ensures
+    (trial_times c.args.run.now c.requires _ c.tried.ensures)
     (c.places-places.ensures ∙ placed_few _ _ c.requires.within.counts.sessions)

@@ -1,4 +1,4 @@
--- `least` finds the least. Invariant: that of the first k places; what falls: playing - k. Assumes nothing.
+-- `least` finds the least: that of the first k places. Assumes nothing.
 use Prim.Native.Nat.{ℕ, ◌^◌, ◌≤◌, ◌<◌}
 use mathlib.Core.Path.{◌≡◌, ◌∙◌}
 use mathlib.Core.List.{List}
@@ -6,14 +6,15 @@ use native.Mathlib.Omega.{arith}
 use lib.IntN.{ℤ, pos, ◌-ℤ◌}
 use lib.ListN.{replicate}
 use lib.Signed.{mag}
+use borrow.Author.Rules.{rules}
 use mir.Syntax.{w64}
 use mir.Val.{to_z, of_z}
 use mir.Facts.{to_z-of_z}
 use Rattle.standing.specs.declared.Standing.{Standing}
 use Rattle.standing.specs.Standing.{Fit}
 use Rattle.order.specs.Order.{place_in, ahead_in, ordered_by}
-use Rattle.order.proofs.Orders.{test_less, test_not, ordered_few}
-use Rattle.standing.proofs.Seats.{Seated, seat_in, named_seats, first_small, next_small, turned_first, turned_less, turned_more, turned_all}
+use Rattle.order.proofs.Orders.{ordered_few}
+use Rattle.standing.proofs.Seats.{Seated, seat_in, named_seats, first_small, next_small, turned_first, turned, turned_all}
 use Rattle.standing.proofs.Standings.{less_small}
 use Rattle.standing.proofs.least.least.Goals as goal
 
@@ -37,14 +38,8 @@ module _ (s : Standing) (f : Fit s) {o : List ℕ} (e : o ≡ ordered_by s.place
         to_z w64 (of_z w64 x) ≡ ahead_in s.aheads (seat_in o k) -ℤ pos load
     spare_is x load h g = rw (g, read) (to_z-of_z (less_small _ _ (f.aheads _ (seats.inside k l)) h))
 
-pub offset_bounds-s-first : goal.offset_bounds-s-first
-offset_bounds-s-first c = omega (arith, few _ c.requires.fit c.ordered-seats.ensures 0 c.requires.playing_nonzero)
-
 pub bounds-s-first : goal.bounds-s-first
 bounds-s-first c = few _ c.requires.fit c.ordered-seats.ensures 0 c.requires.playing_nonzero
-
-pub offset_bounds-s-first-2 : goal.offset_bounds-s-first-2
-offset_bounds-s-first-2 c = omega (arith, few _ c.requires.fit c.ordered-seats.ensures 0 c.requires.playing_nonzero)
 
 pub bounds-s-first-2 : goal.bounds-s-first-2
 bounds-s-first-2 c = few _ c.requires.fit c.ordered-seats.ensures 0 c.requires.playing_nonzero
@@ -62,25 +57,19 @@ loop-k-init c =
     (spare_is _ c.requires.fit c.ordered-seats.ensures 0 c.requires.playing_nonzero _ _
     (first_small _ _ p c.requires.fit c.requires.playing_nonzero) c.net-least.ensures)
 
-pub offset_bounds-s-i : goal.offset_bounds-s-i
-offset_bounds-s-i c = omega (arith, few _ c.requires.fit c.ordered-seats.ensures _ c.loop-k-test.true)
-
 pub bounds-s-i : goal.bounds-s-i
 bounds-s-i c = few _ c.requires.fit c.ordered-seats.ensures _ c.loop-k-test.true
 
-pub overflow_add-load : goal.overflow_add-load
-overflow_add-load c =
+pub overflow_add-sum : goal.overflow_add-sum
+overflow_add-sum c =
     let p = seats _ c.requires.fit c.ordered-seats.ensures in
     record { fits = omega (arith, next_small _ _ p c.requires.fit _ _ c.loop-k-test.true c.loop-k.invariant.times) }
-
-pub offset_bounds-s-i-in-loop-k : goal.offset_bounds-s-i-in-loop-k
-offset_bounds-s-i-in-loop-k c = omega (arith, few _ c.requires.fit c.ordered-seats.ensures _ c.loop-k-test.true)
 
 pub bounds-s-i-in-loop-k : goal.bounds-s-i-in-loop-k
 bounds-s-i-in-loop-k c = few _ c.requires.fit c.ordered-seats.ensures _ c.loop-k-test.true
 
-pub net-spare-requires : goal.net-spare-requires
-net-spare-requires c = (
+pub net-requires : goal.net-requires
+net-requires c = (
   near _ c.requires.fit c.ordered-seats.ensures _ c.loop-k-test.true,
   next_small _ _ (seats _ c.requires.fit c.ordered-seats.ensures) c.requires.fit _ _ c.loop-k-test.true c.loop-k.invariant.times,
 )
@@ -89,13 +78,9 @@ pub loop-k-preserved : goal.loop-k-preserved
 loop-k-preserved c =
     let p = seats _ c.requires.fit c.ordered-seats.ensures in
     let x = spare_is _ c.requires.fit c.ordered-seats.ensures _ c.loop-k-test.true _ _
-    (next_small _ _ p c.requires.fit _ _ c.loop-k-test.true c.loop-k.invariant.times) c.net-spare.ensures in
-    elim c.if-spare-least.branch [
-      | goal.then-spare-least w ↦
-          rw w.least-is-bits (turned_less _ _ p _ _ _ _ c.loop-k.invariant c.loop-k-test.true x (test_less w.if-spare-least.true))
-      | goal.else-spare-least w ↦
-          rw w.least-is-bits (turned_more _ _ p _ _ _ _ c.loop-k.invariant c.loop-k-test.true x (test_not w.if-spare-least.false))
-    ]
+    (next_small _ _ p c.requires.fit _ _ c.loop-k-test.true c.loop-k.invariant.times) c.net.ensures in
+    let fits : to_z w64 (of_z w64 c.min-least.result) ≡ c.min-least.result = search rules in
+    turned _ _ p _ _ _ _ c.loop-k.invariant c.loop-k-test.true x _ (fits ∙ c.min-least.ensures.value)
 
 pub returns : goal.returns
 returns c = turned_all _ _ (seats _ c.requires.fit c.ordered-seats.ensures) _ _ _ c.loop-k.invariant c.loop-k-test.false
