@@ -1,9 +1,10 @@
 // Reads a show file from standard input and writes what the desk says of it to standard output.
 // A failed read or write is told on standard error.
+// `why` is its twin: one function for both would be lent the call, which takes a `requires`, and no public function of the project has one.
 #![tactic(auto)]
 
 use input::read_all;
-use report::TEXT_MOST;
+use report::{TEXT_MOST, report};
 use showfile::Reading;
 
 // A byte more than the longest file: a file that fills this is refused for its length, whatever follows.
@@ -13,23 +14,12 @@ fn main(rt: HostRuntime) {
     let mut room = [0u8; ROOM];
     let came = read_all(&mut rt.stdin(), &mut room);
     if came.failed {
-        complain(&rt, "calculator: standard input could not be read\n");
+        let _ = rt.eprint("calculator: standard input could not be read\n");
         return;
     }
-    let n = came.len;
-    answer(&rt, &room[0..n]);
-}
-
-fn answer(rt: &(impl Print + Eprint), file: &[u8]) {
     let mut text = [0u8; TEXT_MOST];
-    let told = report::report(file, &mut text);
-    let n = told.len;
-    if rt.write_all(&text[0..n]).is_ok() {
-        return;
+    let told = report(&room[..came.len], &mut text);
+    if rt.write_all(&text[..told.len]).is_err() {
+        let _ = rt.eprint("calculator: the answer could not be written\n");
     }
-    complain(rt, "calculator: the answer could not be written\n");
-}
-
-fn complain(rt: &impl Eprint, line: &str) {
-    let _ = rt.eprint(line);
 }

@@ -1,6 +1,6 @@
 // Jobs on a show file.
 use crate::sums::{last, number_of, odd, over, total};
-use show::{Drive, Show};
+use show::Show;
 use showfile::Reading;
 
 // From the file's end back to the lowest byte of N, and the length of the trailer that holds it.
@@ -11,15 +11,15 @@ const TRAILER: usize = 20;
 // ---- what is read
 
 pub(crate) fn reads(file: &mut [u8], turns: u64) -> u64 {
-    lettered(file, turns, read)
+    by_turns(file, turns, read)
 }
 
 pub(crate) fn reports(file: &mut [u8], turns: u64) -> u64 {
-    lettered(file, turns, report)
+    by_turns(file, turns, report)
 }
 
-// Asks of the file with the lowest byte of N as it is, and with its lowest bit turned, by turns.
-fn lettered<F: Fn(&[u8]) -> u64>(file: &mut [u8], turns: u64, ask: F) -> u64
+// Asks of the file as it is, and with the lowest bit of N turned, by turns.
+fn by_turns<F: Fn(&[u8]) -> u64>(file: &mut [u8], turns: u64, ask: F) -> u64
     requires { (f : F) → F.IsAlwaysCallable f }
 {
     let low = low_of(file);
@@ -67,12 +67,14 @@ fn report(file: &[u8]) -> u64 {
 
 // ---- what is written
 
-pub(crate) fn writes(given: Show, note: &[u8], turns: u64) -> u64 {
-    let mut show = given;
-    over(turns, |k| {
-        show.drive.cylinder = given.drive.cylinder ^ odd(k) as u32;
-        write(show, note)
-    })
+pub(crate) fn writes(show: Show, note: &[u8], turns: u64) -> u64 {
+    over(turns, |k| write(shifted(show, k), note))
+}
+
+// The show of turn k: the lowest bit of its cylinder is as it was or turned, by turns.
+fn shifted(mut show: Show, k: u64) -> Show {
+    show.drive.cylinder ^= odd(k) as u32;
+    show
 }
 
 fn write(show: Show, note: &[u8]) -> u64 {

@@ -69,11 +69,12 @@ fn turns_of(text: &[u8]) -> Option<u64> {
     decimal(text).filter(|turns| *turns <= TURNS_MOST)
 }
 
-// How many bytes the text spells, which then stand in `out` as far as it has room.
+// How many bytes the text spells, which then stand in `out` as far as it has room; nothing where it spells none.
 fn bytes_of(text: &[u8], out: &mut [u8]) -> Option<usize> {
     if text == b"-".as_slice() {
         return Some(0);
     }
+    // `unhex` takes capital letters too.
     if text.iter().any(|b| matches!(b, b'A'..=b'F')) {
         return None;
     }
@@ -91,14 +92,9 @@ fn file_job(kind: &[u8], turns: u64, file: &mut [u8]) -> Option<u64> {
 }
 
 fn show_job(kind: &[u8], turns: u64, file: &[u8]) -> Option<u64> {
-    let Reading {
-        check: Ok(()),
-        show,
-        ..
-    } = showfile::read(file)
-    else {
-        return None;
-    };
+    let got = showfile::read(file);
+    got.check.ok()?;
+    let show = got.show;
     match kind {
         b"none" => Some(shows::nothings(turns)),
         b"write" => Some(files::writes(show, showfile::note(file), turns)),

@@ -102,22 +102,27 @@ fn kept(moved: Moved, run: &mut Run) -> u64 {
 // ---- calls that ask of the run
 
 pub(crate) fn slacks(run: Run, turns: u64) -> u64 {
-    clocked(run, turns, |run| spare::slack(run).spare)
+    let run = bitten(run);
+    over(turns, |k| time_of(spare::slack(clocked(run, k)).spare))
 }
 
 pub(crate) fn workaheads(run: Run, turns: u64) -> u64 {
-    clocked(run, turns, |run| spare::workahead(run, 0).spare)
+    let run = bitten(run);
+    over(
+        turns,
+        |k| time_of(spare::workahead(clocked(run, k), 0).spare),
+    )
 }
 
-// A byte of the first session is taken, so that its clock can be 0 and 1 by turns.
-fn clocked<F: Fn(Run) -> Result<i64, Refusal>>(mut run: Run, turns: u64, ask: F) -> u64
-    requires { (f : F) → F.IsAlwaysCallable f }
-{
-    run = playback::take(run, 0, 1).run;
-    over(turns, |k| {
-        run.states[0].clock = odd(k);
-        time_of(ask(run))
-    })
+// A byte of the first session taken, so that its clock can be 0 and 1 by turns.
+fn bitten(run: Run) -> Run {
+    playback::take(run, 0, 1).run
+}
+
+// The run of turn k.
+fn clocked(mut run: Run, k: u64) -> Run {
+    run.states[0].clock = odd(k);
+    run
 }
 
 // The time modulo 2^64, or the refusal's number.

@@ -14,27 +14,22 @@ pub(crate) fn nothings(turns: u64) -> u64 {
 }
 
 pub(crate) fn decides(show: Show, turns: u64) -> u64 {
-    cushioned(show, turns, decide)
+    over(turns, |k| decide(cushioned(show, k)))
 }
 
 pub(crate) fn reasons(show: Show, turns: u64) -> u64 {
-    cushioned(show, turns, reason)
+    over(turns, |k| reason(cushioned(show, k)))
 }
 
 pub(crate) fn opens(show: Show, turns: u64) -> u64 {
-    cushioned(show, turns, open)
+    over(turns, |k| open(cushioned(show, k)))
 }
 
-// Asks of the show with its first cushion as it is, and one larger, by turns.
-fn cushioned<F: Fn(Show) -> u64>(given: Show, turns: u64, ask: F) -> u64
-    requires { (f : F) → F.IsAlwaysCallable f }
-{
-    let first = given.sessions[0].cushion;
-    let mut show = given;
-    over(turns, |k| {
-        show.sessions[0].cushion = first.wrapping_add(odd(k) as u32);
-        ask(show)
-    })
+// The show of turn k: its first cushion is as it was or one larger, by turns.
+fn cushioned(mut show: Show, k: u64) -> Show {
+    let first = show.sessions[0].cushion;
+    show.sessions[0].cushion = first.wrapping_add(odd(k) as u32);
+    show
 }
 
 fn decide(show: Show) -> u64 {

@@ -1,8 +1,9 @@
 // Reads a show file from standard input and writes why it is refused to standard output: a line, and a sentence for the telephone.
 // A failed read or write is told on standard error.
+// `calculator` is its twin: one function for both would be lent the call, which takes a `requires`, and no public function of the project has one.
 #![tactic(auto)]
 
-use explain::TEXT_MOST;
+use explain::{TEXT_MOST, explain};
 use input::read_all;
 use showfile::Reading;
 
@@ -13,23 +14,12 @@ fn main(rt: HostRuntime) {
     let mut room = [0u8; ROOM];
     let came = read_all(&mut rt.stdin(), &mut room);
     if came.failed {
-        complain(&rt, "why: standard input could not be read\n");
+        let _ = rt.eprint("why: standard input could not be read\n");
         return;
     }
-    let n = came.len;
-    answer(&rt, &room[0..n]);
-}
-
-fn answer(rt: &(impl Print + Eprint), file: &[u8]) {
     let mut text = [0u8; TEXT_MOST];
-    let said = explain::explain(file, &mut text);
-    let n = said.len;
-    if rt.write_all(&text[0..n]).is_ok() {
-        return;
+    let said = explain(&room[..came.len], &mut text);
+    if rt.write_all(&text[..said.len]).is_err() {
+        let _ = rt.eprint("why: the answer could not be written\n");
     }
-    complain(rt, "why: the answer could not be written\n");
-}
-
-fn complain(rt: &impl Eprint, line: &str) {
-    let _ = rt.eprint(line);
 }

@@ -1,6 +1,0 @@
--- `pace::runs::clocked`: each turn may call what it was given, whatever the turns before have left.
-use Rattle.std.proofs.Common.{of_calls}
-use Rattle.pace.proofs.runs.clocked.Goals as goal
-
-pub over-requires : goal.over-requires
-over-requires g c = search (of_calls, c.requires)
