@@ -1,19 +1,10 @@
 // Jobs on a run.
 ghost use Rattle.std.specs.Prelude.{◌<◌};
 
-<<<<<<< HEAD
-use crate::sums::{four, number_of, odd, three, two};
-use run::Run;
-use scheduler::Choice;
-use show::refusal::Refusal;
-use std::num::wrapping_sub_u64;
-use workahead::magnitude;
-=======
 use crate::sums::{number, number_of, odd, over, total};
 use run::{Moved, Run};
 use scheduler::Choice;
 use show::refusal::Refusal;
->>>>>>> 62bcce4d11ee01b0bf679f28ddca1babe619fee0
 
 // How long a read takes, and how long passes before the next.
 const SPAN: u64 = 100;

@@ -1,12 +1,7 @@
 // Jobs on a show.
-<<<<<<< HEAD
-use crate::sums::{cushion, first_cushion, four, last, number_of, three, two};
-=======
 use crate::sums::{last, number, number_of, odd, over, total};
->>>>>>> 62bcce4d11ee01b0bf679f28ddca1babe619fee0
 use reason::Reason;
 use show::Show;
-use show::refusal::Refusal;
 
 // The loop alone.
 pub(crate) fn nothings(turns: u64) -> u64 {
