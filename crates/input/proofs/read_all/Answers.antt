@@ -13,5 +13,6 @@ loop-at-preserved g c =
     let piece = take came.result.len (drop at came.new.room) in
     let whole : take at c.loop-at.room ++ piece ≡ take (at + came.result.len) came.new.room =
     ap (λ (front : List ℕ). front ++ piece) (sym came.ensures.room_unchanged) ∙ sym (take-add at came.result.len came.new.room) in
-    let both = Consumes-trans (left c.args.input.now) (left c.loop-at.input) (left came.new.input) (take at c.loop-at.room) piece c.loop-at.invariant.1 came.ensures.bytes in
+    let both = Consumes-trans (left c.args.input.now) (left c.loop-at.input) (left came.new.input) (take at c.loop-at.room) piece
+    c.loop-at.invariant.1 came.ensures.bytes in
     (search rules, subst (λ (bytes : List ℕ). Consumes (left c.args.input.now) (left came.new.input) bytes) whole both)
