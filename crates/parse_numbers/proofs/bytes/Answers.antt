@@ -18,15 +18,6 @@ returns-then-is_empty c =
           odd _ _ refl (λ h. some (omega (arith, h, c.as_chunks.ensures.back_len)))
     ]
 
-pub loop-high-init : goal.loop-high-init
-loop-high-init c =
-    let none = eqb-true (length c.as_chunks.result.1.now) 0 (sym c.if-not-is_empty.ensures) in
-    record {
-      within = omega arith;
-      whole = omega (arith, none, c.as_chunks.ensures.front_len, c.as_chunks.ensures.back_len);
-      so_far = refl;
-    }
-
 pub returns-in_err-pair : goal.returns-in_err-pair
 returns-in_err-pair c =
     let w = c.loop-high.invariant.whole in
