@@ -17,6 +17,7 @@ use showfile::Written;
 // No text is longer.
 pub const TEXT_MOST: usize = 256;
 
+// The first line is as in `report`: one function for both would be a public one of the crate `text`.
 fn put_refusal(out: &mut [u8; TEXT_MOST], why: Refusal) -> usize
     ensures { Put out.old 0 (refusal_text why) out.new result }
 {

@@ -51,14 +51,14 @@ pub(crate) fn put_buffer(out: &mut [u8; TEXT_MOST], session: u64, size: u64, ten
     put_load(out, load, b"", tenths, b" per cent.\n")
 }
 
-// What a refusal of a file means, by what it is told by.
+// What a refusal of a file means. It goes by the numbers that a refusal is told by, and not by the cases of `Refusal`, since the table
+// that the contract names, `sentences`, does (docs/DECISIONS.md).
 pub(crate) fn put_sentence(out: &mut [u8], at: usize, told: Told) -> usize
     requires { FitsAt out.old at (sentence told) }
     ensures { Put out.old at (sentence told) out.new result }
 {
     let place = told.place as u64;
-    let number = told.number;
-    match number {
+    match told.number {
         1 => text::put_word(
             out,
             at,
@@ -86,6 +86,7 @@ pub(crate) fn put_sentence(out: &mut [u8], at: usize, told: Told) -> usize
     }
 }
 
+// A function for each of the two, which differ in their words alone: so put_sentence stays short.
 fn put_layout(out: &mut [u8], at: usize, place: u64) -> usize
     ensures out_after { out.new ≡ put_over out.old at (layout_text place) }
     ensures value { result ≡ put_to out.old at (layout_text place) }

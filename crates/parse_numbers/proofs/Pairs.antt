@@ -1,10 +1,11 @@
 -- Two digits a byte: laws for `pair` and the loop of `bytes`. Assumes nothing.
 use Rattle.std.specs.Prelude.{Some, Option, None}
-use Prim.Native.Nat.{ℕ, suc, ◌+◌, ◌*◌, ◌/◌, ◌≤◌, ◌<◌}
+use Prim.Native.Nat.{ℕ, zero, suc, ◌+◌, ◌*◌, ◌/◌, ◌≤◌, ◌<◌}
 use mathlib.Core.Path.{◌≡◌, refl, sym, ap, ◌∙◌}
 use mathlib.Core.Bool.{Bool, true, false}
 use mathlib.Core.List.{List, [], ◌∷◌}
 use native.Mathlib.Omega.{arith}
+use Rattle.std.specs.Simd.{first_chunks}
 use lib.Dec.{lit<}
 use lib.ListN.{length, drop, get_or, drop_of_length-le}
 use Rattle.parse_numbers.specs.Bytes.{Bytes, hex_of, byte_of, joined, pairs_of, bytes_of, count_of}
@@ -50,6 +51,27 @@ pub bytes_length : (text l : List ℕ) → bytes_of text ≡ Some l → length t
 unfolding bytes_of
 bytes_length [] l e = are_none (sym e)
 bytes_length (a ∷ text) l e = pairs_length (a ∷ text) l e
+
+-- ---- the pairs as arrays
+
+chunk_at :
+    (text : List ℕ) (k i : ℕ) → i < k → 2 * k ≤ length text →
+    get_or (first_chunks 2 k text) i [] ≡ get_or text (2 * i) 0 ∷ get_or text (2 * i + 1) 0 ∷ []
+chunk_at text zero i l h = absurd (let f : ⊥ = omega arith in f)
+chunk_at [] (suc k) i l h = absurd (let f : ⊥ = omega arith in f)
+chunk_at (a ∷ []) (suc k) i l h = absurd (let f : ⊥ = omega arith in f)
+chunk_at (a ∷ b ∷ text) (suc k) zero l h = refl
+chunk_at (a ∷ b ∷ text) (suc k) (suc i) l h =
+    let d : 2 * suc i + 1 ≡ suc (suc (2 * i + 1)) = omega arith in
+    let e : 2 * suc i ≡ suc (suc (2 * i)) = omega arith in
+    rw (d, e) (chunk_at text k i (omega arith) (omega arith))
+
+-- the byte of pair i
+pub byte_here :
+    (text : List ℕ) (pairs : List (List ℕ)) (k i : ℕ) → pairs ≡ first_chunks 2 k text → i < k → 2 * k ≤ length text →
+    byte_of (get_or (get_or pairs i []) 0 0) (get_or (get_or pairs i []) 1 0) ≡ byte_of (get_or text (2 * i) 0) (get_or text (2 * i + 1) 0)
+byte_here text pairs k i e l h =
+    ap (λ (p : List ℕ). byte_of (get_or p 0 0) (get_or p 1 0)) (ap (λ (q : List (List ℕ)). get_or q i []) e ∙ chunk_at text k i l h)
 
 -- ---- the loop, at pair i: the text is in hex where what is left of it is
 

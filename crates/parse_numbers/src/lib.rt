@@ -41,12 +41,12 @@ pub fn unhex(text: &[u8], out: &mut [u8]) -> Option<u64>
 fn bytes(text: &[u8]) -> Option<usize>
     ensures { result ≡ count_of (bytes_of text.now) }
 {
-    let n = text.len() / 2;
-    if n == 0 || text.len() != 2 * n {
+    let (pairs, rest) = text.as_chunks::<2>();
+    if pairs.is_empty() || !rest.is_empty() {
         return None;
     }
-    for i in 0..n {
-        pair(text[2 * i], text[2 * i + 1])?;
+    for [high, low] in pairs {
+        pair(*high, *low)?;
     }
-    Some(n)
+    Some(pairs.len())
 }

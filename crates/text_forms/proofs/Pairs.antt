@@ -17,6 +17,8 @@ pub digit_high : (d : ℕ) → 10 ≤ d → hex_digit d ≡ 97 + (d - 10)
 unfolding hex_digit
 digit_high d h = if_neg (dec_lt d 10) (λ l. (let z : ⊥ = omega arith in z)) _ _
 
+pub ruleset digit_cases = (digit_low, digit_high)
+
 pub pairs_length : (bytes : List ℕ) → length (pairs_text bytes) ≡ length bytes + length bytes
 unfolding pairs_text
 pairs_length [] = refl

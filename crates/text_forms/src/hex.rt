@@ -47,6 +47,7 @@ fn put_pair(out: &mut [u8], at: usize, b: u8) -> usize
     put_word(out, at, &[high, low])
 }
 
+#[tactic(auto, using(crate::proofs::Pairs::digit_cases))]
 fn digit(d: u8) -> u8
     requires { d < 16 }
     ensures { result ≡ hex_digit d }

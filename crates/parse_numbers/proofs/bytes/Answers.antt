@@ -1,22 +1,38 @@
 -- `bytes` looks at each pair. Assumes nothing.
-use Rattle.std.proofs.Common.{◌∙◌, refl}
+use mathlib.Core.Path.{refl, sym, ◌∙◌}
 use native.Mathlib.Omega.{arith}
-use Rattle.parse_numbers.proofs.Pairs.{bytes_none, odd, body, stopped, ended}
+use lib.ListN.{length}
+use Rattle.std.proofs.lemmas.Bool.{eqb-true, eqb-false}
+use Rattle.parse_numbers.proofs.Pairs.{bytes_none, odd, body, stopped, ended, byte_here}
 use Rattle.parse_numbers.proofs.bytes.Goals as goal
-use Rattle.parse_numbers.proofs.bytes.Goals.{then-n-eq0-via-then-n-eq0, then-n-eq0-via-else-n-eq0+then-text-n}
+use Rattle.parse_numbers.proofs.bytes.Goals.{then-is_empty-via-then-is_empty, then-is_empty-via-else-is_empty+then-not-is_empty, After-pair}
 
-pub returns-then-n-eq0 : goal.returns-then-n-eq0
-returns-then-n-eq0 c =
-    elim c.then-n-eq0.branch [
-      | then-n-eq0-via-then-n-eq0 w ↦ bytes_none _ (omega (arith, w.if-n-eq0.true))
-      | then-n-eq0-via-else-n-eq0+then-text-n w ↦ odd _ _ refl w.if-text-n.true
+pub returns-then-is_empty : goal.returns-then-is_empty
+returns-then-is_empty c =
+    elim c.then-is_empty.branch [
+      | then-is_empty-via-then-is_empty w ↦
+          let none = eqb-true (length c.as_chunks.result.0.now) 0 (sym w.if-is_empty.ensures) in
+          bytes_none _ (omega (arith, none, c.as_chunks.ensures.front_len))
+      | then-is_empty-via-else-is_empty+then-not-is_empty w ↦
+          let some = eqb-false (length c.as_chunks.result.1.now) 0 (sym w.if-not-is_empty.ensures) in
+          odd _ _ refl (λ h. some (omega (arith, h, c.as_chunks.ensures.back_len)))
     ]
 
 pub returns-in_err-pair : goal.returns-in_err-pair
-returns-in_err-pair c = c.from_residual.ensures ∙ stopped _ _ _ c.loop-i.invariant c.loop-i-test.true _ c.pair.ensures c.in_err-pair.was
+returns-in_err-pair c =
+    let w = c.loop-high.invariant.whole in
+    let n = c.as_chunks.ensures.front_len in
+    let e = byte_here c.args.text.now _ _ c.loop-high.high-index c.as_chunks.ensures.front (omega (arith, n)) (omega (arith, n)) in
+    c.from_residual.ensures ∙ stopped _ _ _ c.loop-high.invariant c.loop-high-test.true _ (c.pair.ensures ∙ e) c.in_err-pair.was
 
-pub loop-i-preserved : goal.loop-i-preserved
-loop-i-preserved c = body _ _ _ c.loop-i.invariant c.loop-i-test.true _ _ c.pair.ensures c.in_ok-pair.was
+pub loop-high-preserved : goal.loop-high-preserved
+loop-high-preserved c =
+    let w = c.loop-high.invariant.whole in
+    let n = c.as_chunks.ensures.front_len in
+    let e = byte_here c.args.text.now _ _ c.loop-high.high-index c.as_chunks.ensures.front (omega (arith, n)) (omega (arith, n)) in
+    body _ _ _ c.loop-high.invariant c.loop-high-test.true _ _ (c.pair.ensures ∙ e) c.in_ok-pair.was
 
 pub returns : goal.returns
-returns c = ended _ _ _ c.loop-i.invariant (omega arith) c.loop-i-test.false
+returns c =
+    let some = eqb-false (length c.as_chunks.result.0.now) 0 (sym c.if-is_empty.ensures) in
+    ended _ _ _ c.loop-high.invariant (omega arith) c.loop-high-test.false
