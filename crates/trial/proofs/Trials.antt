@@ -1,21 +1,35 @@
 -- Whether given counts hold, by their times. Assumes nothing.
 use Rattle.std.specs.Prelude.{Ok, Result, Bool, true, false}
-use Prim.Native.Nat.{ℕ, ◌+◌, ◌≤◌, ◌<◌}
-use mathlib.Core.Path.{◌≡◌, sym, subst}
+use Prim.Native.Nat.{ℕ, ◌+◌, ◌*◌, ◌≤◌, ◌<◌}
+use mathlib.Core.Path.{◌≡◌, refl, sym, subst}
 use mathlib.Core.List.{List}
 use native.Mathlib.Omega.{arith}
 use native.Mathlib.Nat.{le_trans}
+use lib.Dec.{leb}
 use borrow.Author.Count.{below_more}
 use Rattle.show.specs.declared.refusal.Refusal.{Refusal}
 use Rattle.show.specs.declared.Show.{Show}
-use Rattle.show.specs.Limits.{ShowWithin, session_at}
+use Rattle.std.proofs.lemmas.Bool.Decides.{nat_tests}
+use Rattle.show.specs.declared.Session.{Session}
+use Rattle.show.specs.Limits.{ShowWithin, Tells, session_at}
 use Rattle.theory.specs.Counts.{unit, round_time, Good}
+use Rattle.theory.specs.Rounds.{need}
 use Rattle.theory.specs.Shows.{load_of}
+use Rattle.count.specs.Answers.{Buffered}
 use Rattle.theory.proofs.Rounds.{need_enough, need_least, need_some, unit_some}
 use Rattle.theory.proofs.Shows.{show_sound}
 use Rattle.verdict.specs.Answers.{times_of, set_of}
 use Rattle.trial.specs.Answers.{trial_of, timed_as, TrialIs, holds, fails}
 use Rattle.trial.specs.Steps.{Held, Holds}
+
+-- What the last test tells.
+pub held_tells :
+    (A : ℕ) (x : Session) (t m least : ℕ) → Buffered A x m → least ≡ need x.rate (A * 1000000) t → Tells (leb least m) (Held A x t m)
+held_tells A x t m least room e = from (leb least m) refl
+  where
+    from : (b : Bool) → leb least m ≡ b → Tells b (Held A x t m)
+    from true h = record { room = room; ahead = grind (arith, nat_tests) }
+    from false h = λ g. (let a = g.ahead in grind (arith, nat_tests))
 
 pub record HeldTo (s : Show) (t : ℕ) (m : ℕ → ℕ) (i : ℕ) : Type 0 where
   pub inside : i ≤ s.playing

@@ -24,32 +24,25 @@ pub struct Trial {
 pub fn tried(show: Show, counts: [u32; 16]) -> Trial
     ensures { TrialIs show counts result }
 {
-    let check = show.check();
-    if let Err(why) = check {
+    if let Err(why) = show.check() {
         return timed(Err(why), 0, [0; 16]);
     }
     let drive = show.drive;
     let mut round: u64 = 0;
     let mut times: [u64; 16] = [0; 16];
-    let mut i: usize = 0;
-    while i < show.playing {
+    for i in 0..show.playing {
         let session = show.sessions[i];
         let at = session.layout as usize;
-        let cost = Cost::of_read(show.layouts[at]);
-        let worst = cost.takes(drive.cylinder, counts[i]);
-        let Ok(time) = worst else {
-            return timed(Ok(false), 0, times);
-        };
+        let time = Cost::of_read(show.layouts[at])
+            .takes(drive.cylinder, counts[i])
+            .unwrap_or(0);
         times[i] = time;
         round += time;
-        i += 1;
     }
-    let mut k: usize = 0;
-    while k < show.playing {
+    for k in 0..show.playing {
         if !held(drive.block, show.sessions[k], round, counts[k]) {
             return timed(Ok(false), round, times);
         }
-        k += 1;
     }
     timed(Ok(true), round, times)
 }
@@ -64,20 +57,10 @@ fn timed(answer: Result<bool, Refusal>, round: u64, times: [u64; 16]) -> Trial
     }
 }
 
-// A session's count fits its buffer and is ahead of its rate over t: so it is at least 1.
+// A session's count fits its buffer and is ahead of its rate over t: so it is at least 1. Within the limits no rate is refused.
 fn held(block: u32, session: Session, t: u64, count: u32) -> bool
     requires { BlockWithin block × RateWithin session.rate }
     ensures { Tells result (Held block session t count) }
 {
-    if !fits(session, block, count) {
-        return false;
-    }
-    let asked = need(session.rate, block, t);
-    let Ok(least) = asked else {
-        return false;
-    };
-    if (count as u64) < least {
-        return false;
-    }
-    true
+    fits(session, block, count) && need(session.rate, block, t).unwrap_or(u64::MAX) <= count as u64
 }

@@ -1,5 +1,6 @@
 -- `tried` refuses a show outside the limits, and otherwise tells whether the counts hold, with their times. Invariants: the times of the
--- first i sessions stand there; the counts of the first k hold. What falls: playing - i; playing - k. Assumes nothing.
+-- first i sessions stand there; the counts of the first k hold. Assumes nothing.
+use Rattle.std.specs.Prelude.{Ok}
 use Prim.Native.Nat.{ℕ, ◌≤◌, ◌<◌}
 use mathlib.Core.Path.{◌≡◌, sym, ap, subst, ◌∙◌}
 use native.Mathlib.Omega.{arith}
@@ -15,49 +16,44 @@ use Rattle.cost.specs.declared.Cost.{Cost}
 use Rattle.cost.specs.Bound.{worst_time}
 use Rattle.cost.specs.Costs.{read_cost}
 use Rattle.cost.specs.WorstTimes.{takes_of}
+use Rattle.cost.proofs.Bound.{worst_below}
 use Rattle.cost.proofs.Costs.{laid_below, layout_within, read_limited}
-use Rattle.cost.proofs.WorstTimes.{takes_granted}
+use Rattle.cost.proofs.WorstTimes.{takes_known}
 use Rattle.count.proofs.Answers.{drive_block}
 use Rattle.verdict.specs.Answers.{set_of}
 use Rattle.verdict.specs.Steps.{time_most}
-use Rattle.verdict.proofs.Sets.{times_begun, times_body, times_ended, takes_told, time_same}
+use Rattle.verdict.proofs.Sets.{times_begun, times_body, times_ended, time_same}
 use Rattle.trial.specs.Answers.{TrialIs, untried}
 use Rattle.trial.proofs.Trials.{held_begun, held_body, held_ended, held_broken, trial_holds, trial_fails}
 use Rattle.trial.proofs.tried.Goals as goal
-use Rattle.trial.proofs.tried.Goals.{In_default, After-takes-worst, In-Ok}
+use Rattle.trial.proofs.tried.Goals.{In_default, After-unwrap_or-time}
 
 -- The show is within its limits once 2, 5, 6 and 7 are past.
 within : (c : In_default) → ShowWithin c.args.show
-within c = check_within _ (sym c.check-check.ensures ∙ c.in_default.is)
+within c = check_within _ (sym c.check.ensures ∙ c.in_default.is)
 
 few : (s : Show) (i : ℕ) → ShowWithin s → i < s.playing → i < 16
 few s i w l = let h = w.counts.sessions in omega arith
 
--- what the call of a turn's time is asked
-asked :
-    (c : After-takes-worst) →
-    let s = c.args.show in
-    c.takes-worst.result
-    ≡ takes_of (read_cost (layout_at s (session_at s c.loop-i.i).layout)) s.drive.cylinder (set_of c.args.counts c.loop-i.i)
-asked c =
-    let n = set_of c.args.counts c.loop-i.i in
-    c.takes-worst.ensures ∙ ap (λ (x : Cost). takes_of x c.args.show.drive.cylinder n) c.of_read-cost.ensures
-
--- the time that a turn adds, and its bound
+-- the time that a turn adds, and its bound: within the limits it is not refused
 told :
-    (c : In-Ok) → ShowWithin c.args.show → c.takes-worst.result
-    ≡ takes_of (read_cost (layout_at c.args.show (session_at c.args.show c.loop-i.i).layout)) c.args.show.drive.cylinder
-    (set_of c.args.counts c.loop-i.i) →
+    (c : After-unwrap_or-time) → ShowWithin c.args.show →
     let s = c.args.show in
     let n = set_of c.args.counts c.loop-i.i in
-    (c.in-Ok.time ≡ worst_time s.drive.cylinder (read_cost (layout_at s (session_at s c.loop-i.i).layout)) n)
-    × (c.in-Ok.time ≤ time_most)
-told c w e =
-    let n : Fits w32 (set_of c.args.counts c.loop-i.i) = search rules in
-    takes_told _ _ _ _ (layout_within _ w _ c.loop-i-test.true) w.drive.cylinder (omega arith) (sym e ∙ c.in-Ok.is)
+    (c.unwrap_or-time.result ≡ worst_time s.drive.cylinder (read_cost (layout_at s (session_at s c.loop-i.i).layout)) n)
+    × (c.unwrap_or-time.result ≤ time_most)
+told c w =
+    let s = c.args.show in
+    let n = set_of c.args.counts c.loop-i.i in
+    let few : Fits w32 n = search rules in
+    let l = read_limited _ (layout_within _ w _ c.loop-i-test.true) in
+    let known : c.takes.result ≡ Ok (worst_time s.drive.cylinder (read_cost (layout_at s (session_at s c.loop-i.i).layout)) n) =
+    c.takes.ensures ∙ ap (λ (x : Cost). takes_of x s.drive.cylinder n) c.of_read.ensures ∙ takes_known _ _ _ w.drive.cylinder l in
+    let e = rw known at c.unwrap_or-time.ensures in
+    (e, rw e (worst_below s.drive.cylinder 4294967295 _ l n (omega arith)))
 
 pub returns-in-Err : goal.returns-in-Err
-returns-in-Err c = subst (TrialIs _ _) (sym c.timed.ensures) (untried _ (sym c.check-check.ensures ∙ c.in-Err.is))
+returns-in-Err c = subst (TrialIs _ _) (sym c.timed.ensures) (untried _ (sym c.check.ensures ∙ c.in-Err.is))
 
 pub loop-i-init : goal.loop-i-init
 loop-i-init c = times_begun _ _ _ (filled_none 16 0 _)
@@ -80,13 +76,6 @@ offset_bounds-counts-i c = omega (arith, few _ _ (within (goal.at.offset_bounds-
 pub bounds-counts-i : goal.bounds-counts-i
 bounds-counts-i c = few _ _ (within (goal.at.bounds-counts-i c).In_default) c.loop-i-test.true
 
-pub returns-in_default-worst : goal.returns-in_default-worst
-returns-in_default-worst c =
-    let at = goal.at.returns-in_default-worst c in
-    let w = within at.In_default in
-    takes_granted _ _ _ w.drive.cylinder (read_limited _ (layout_within _ w _ c.loop-i-test.true))
-    (sym (asked at.After-takes-worst) ∙ c.in_default-worst.is)
-
 pub offset_bounds-times-i : goal.offset_bounds-times-i
 offset_bounds-times-i c = omega (arith, few _ _ (within (goal.at.offset_bounds-times-i c).In_default) c.loop-i-test.true)
 
@@ -97,18 +86,15 @@ pub overflow_add-round : goal.overflow_add-round
 overflow_add-round c =
     let at = goal.at.overflow_add-round c in
     let w = within at.In_default in
-    let b = (told at.In-Ok w (asked at.After-takes-worst)).1 in
+    let b = (told at.After-unwrap_or-time w).1 in
     let l = few _ _ w c.loop-i-test.true in
     omega arith
-
-pub loop-i-smaller : goal.loop-i-smaller
-loop-i-smaller c = omega arith
 
 pub loop-i-preserved : goal.loop-i-preserved
 loop-i-preserved c =
     let at = goal.at.loop-i-preserved c in
     let w = within at.In_default in
-    let e = told at.In-Ok w (asked at.After-takes-worst) in
+    let e = told at.After-unwrap_or-time w in
     times_body _ _ _ _ _ _ w c.loop-i.invariant c.loop-i-test.true (e.0 ∙ time_same _ _ _) e.1
 
 pub loop-k-init : goal.loop-k-init
@@ -138,10 +124,6 @@ returns-then-not-held c =
     subst (TrialIs _ _) (sym c.timed-then-not-held.ensures)
     (trial_fails _ w _ _ _ r.0 r.1
     (held_broken _ _ _ _ c.loop-k-test.true (tells_no _ c.held.result c.if-not-held.true c.held.ensures)))
-
-pub loop-k-smaller : goal.loop-k-smaller
-loop-k-smaller c =
-    omega arith
 
 pub loop-k-preserved : goal.loop-k-preserved
 loop-k-preserved c =

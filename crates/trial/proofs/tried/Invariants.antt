@@ -1,6 +1,5 @@
 -- `tried` refuses a show outside the limits, and otherwise tells whether the counts hold, with their times. Invariants: the times of the
--- first i sessions stand there; the counts of the first k hold. What falls: playing - i; playing - k. Assumes nothing.
-use Prim.Native.Nat.{◌-◌}
+-- first i sessions stand there; the counts of the first k hold. Assumes nothing.
 use Rattle.theory.specs.Shows.{load_of}
 use Rattle.verdict.specs.Answers.{set_of}
 use Rattle.verdict.proofs.Sets.{TimedTo}
@@ -10,11 +9,5 @@ use Rattle.trial.proofs.tried.Given as goal
 abbrev pub invariant-loop-i : goal.invariant-loop-i
 invariant-loop-i l = TimedTo l.show (λ k. ((load_of l.show).stream k).time (set_of l.counts k)) l.round l.times l.i
 
-abbrev pub decreases-loop-i : goal.decreases-loop-i
-decreases-loop-i l = l.show.playing - l.i
-
 abbrev pub invariant-loop-k : goal.invariant-loop-k
 invariant-loop-k l = HeldTo l.show l.round (set_of l.counts) l.k
-
-abbrev pub decreases-loop-k : goal.decreases-loop-k
-decreases-loop-k l = l.show.playing - l.k
