@@ -78,18 +78,6 @@ module _ (s : Show) (w : ShowWithin s) (i : ℕ) (l : i < s.playing) (x : Cost) 
         edges_few = omega arith;
       }
 
-pub sums_ended :
-    (s : Show) → ShowWithin s → (x : Sums) (i : ℕ) → SumsTo s x.blocks x.edges i → s.playing ≤ i → (x ≡ sums_of s) × SumsSmall x
-sums_ended s w x i h l =
-    let n = w.counts.sessions in
-    let a = h.inside in
-    let p = h.blocks_few in
-    let q = h.edges_few in
-    let e : i ≡ s.playing = omega arith in (
-      λ j. record { blocks = (h.blocks_are ∙ ap (sum_to (blocks_at s)) e) j; edges = (h.edges_are ∙ ap (sum_to (edges_at s)) e) j },
-      record { blocks = omega arith; edges = omega arith },
-    )
-
 -- ---- the load, by the two
 
 module _ (s : Show) where

@@ -1,10 +1,9 @@
 -- What is answered of the smallest counts with the largest buffers. Assumes nothing.
 use Rattle.std.specs.Prelude.{Ok, Err, Some, None}
-use Prim.Native.Nat.{ℕ, ◌+◌, ◌≤◌, ◌<◌}
+use Prim.Native.Nat.{ℕ, ◌≤◌, ◌<◌}
 use mathlib.Core.Path.{◌≡◌, refl, sym, ◌∙◌}
 use mathlib.Core.List.{List}
 use native.Mathlib.Omega.{arith}
-use borrow.Author.Count.{below_more}
 use Rattle.show.specs.declared.Show.{Show}
 use Rattle.show.specs.declared.refusal.Refusal.{Refusal}
 use Rattle.show.specs.Limits.{ShowWithin, buffer_most}
@@ -63,18 +62,12 @@ pub record FitTo (s : Show) (counts : List ℕ) (i : ℕ) : Type 0 where
   pub inside : i ≤ s.playing
   pub fits : (j : ℕ) → j < i → needed (load_of s) j (set_of counts j) ≤ ((load_of s).stream j).buffer
 
-pub fit_begun : (s : Show) (counts : List ℕ) → FitTo s counts 0
-fit_begun s counts = record { inside = omega arith; fits = λ j h. absurd (let f : ⊥ = omega arith in f) }
-
 -- Such a count is below the most that a buffer holds.
 pub few :
     (s : Show) → ShowWithin s → (m : ℕ → ℕ) → Smallest (widened buffer_most (load_of s)) m → (i : ℕ) → i < s.playing → m i < count_most
 few s w m h i l = count_capped (m i) _ _ buffer_most w.drive.block.low (omega arith) (h.good.feasible i l)
 
 module _ (s : Show) (w : ShowWithin s) (counts : List ℕ) (m : Smallest (widened buffer_most (load_of s)) (set_of counts)) (i : ℕ) (h : FitTo s counts i) where
-  pub fit_more : i < s.playing → needed (load_of s) i (set_of counts i) ≤ ((load_of s).stream i).buffer → FitTo s counts (i + 1)
-  fit_more l g = record { inside = omega arith; fits = below_more _ _ h.fits g }
-
   -- The first that does not is the reason ..
   pub fit_broken :
       i < s.playing → ((load_of s).stream i).buffer < needed (load_of s) i (set_of counts i) →

@@ -1,41 +1,34 @@
 -- Whether given counts hold, by their times. Assumes nothing.
 use Rattle.std.specs.Prelude.{Ok, Result, Bool, true, false}
-use Prim.Native.Nat.{ℕ, ◌+◌, ◌≤◌, ◌<◌}
-use mathlib.Core.Path.{◌≡◌, sym, subst}
+use Prim.Native.Nat.{ℕ, ◌*◌}
+use mathlib.Core.Path.{◌≡◌, refl, sym, subst}
 use mathlib.Core.List.{List}
 use native.Mathlib.Omega.{arith}
 use native.Mathlib.Nat.{le_trans}
-use borrow.Author.Count.{below_more}
+use lib.Dec.{leb}
 use Rattle.show.specs.declared.refusal.Refusal.{Refusal}
 use Rattle.show.specs.declared.Show.{Show}
-use Rattle.show.specs.Limits.{ShowWithin, session_at}
+use Rattle.std.proofs.lemmas.Bool.Decides.{nat_tests}
+use Rattle.show.specs.declared.Session.{Session}
+use Rattle.show.specs.Limits.{ShowWithin, Tells}
 use Rattle.theory.specs.Counts.{unit, round_time, Good}
+use Rattle.theory.specs.Rounds.{need}
 use Rattle.theory.specs.Shows.{load_of}
+use Rattle.count.specs.Answers.{Buffered}
 use Rattle.theory.proofs.Rounds.{need_enough, need_least, need_some, unit_some}
 use Rattle.theory.proofs.Shows.{show_sound}
 use Rattle.verdict.specs.Answers.{times_of, set_of}
 use Rattle.trial.specs.Answers.{trial_of, timed_as, TrialIs, holds, fails}
 use Rattle.trial.specs.Steps.{Held, Holds}
 
-pub record HeldTo (s : Show) (t : ℕ) (m : ℕ → ℕ) (i : ℕ) : Type 0 where
-  pub inside : i ≤ s.playing
-  pub held : (k : ℕ) → k < i → Held s.drive.block (session_at s k) t (m k)
-
-module _ (s : Show) (t : ℕ) (m : ℕ → ℕ) where
-  pub held_begun : HeldTo s t m 0
-  held_begun = record { inside = omega arith; held = λ k h. absurd (let f : ⊥ = omega arith in f) }
-
-  pub held_body : (i : ℕ) → HeldTo s t m i → i < s.playing → Held s.drive.block (session_at s i) t (m i) → HeldTo s t m (i + 1)
-  held_body i h l g = record { inside = omega arith; held = below_more _ _ h.held g }
-
-  pub held_ended : (i : ℕ) → HeldTo s t m i → s.playing ≤ i → Holds (load_of s) t m
-  held_ended i h l =
-      let at : (k : ℕ) → k < s.playing → Held s.drive.block (session_at s k) t (m k) =
-      (λ k g. h.held k (let a = h.inside in omega arith)) in
-      record { room = λ k g. (at k g).room; ahead = λ k g. (at k g).ahead }
-
-  pub held_broken : (i : ℕ) → i < s.playing → (Held s.drive.block (session_at s i) t (m i) → ⊥) → Holds (load_of s) t m → ⊥
-  held_broken i l none h = none (record { room = h.room i l; ahead = h.ahead i l })
+-- What the last test tells.
+pub held_tells :
+    (A : ℕ) (x : Session) (t m least : ℕ) → Buffered A x m → least ≡ need x.rate (A * 1000000) t → Tells (leb least m) (Held A x t m)
+held_tells A x t m least room e = from (leb least m) refl
+  where
+    from : (b : Bool) → leb least m ≡ b → Tells b (Held A x t m)
+    from true h = record { room = room; ahead = grind (arith, nat_tests) }
+    from false h = λ g. (let a = g.ahead in grind (arith, nat_tests))
 
 -- Counts that hold over their own round are a good set, and the other way round: N1.
 module _ (s : Show) (w : ShowWithin s) (m : ℕ → ℕ) where
@@ -65,9 +58,13 @@ module _
     abbrev Over : ℕ → Type 0
     Over t = Holds (load_of s) t (set_of m)
 
-    pub trial_holds : Over round → TrialIs s m (trial_of (Ok true) round times)
+    trial_holds : Over round → TrialIs s m (trial_of (Ok true) round times)
     trial_holds h = subst (TrialIs s m) (sym (same (Ok true))) (holds w (holds_good s w (set_of m) (subst Over e h)))
 
-    pub trial_fails : (Over round → ⊥) → TrialIs s m (trial_of (Ok false) round times)
+    trial_fails : (Over round → ⊥) → TrialIs s m (trial_of (Ok false) round times)
     trial_fails none =
         subst (TrialIs s m) (sym (same (Ok false))) (fails w (λ g. none (subst Over (sym e) (good_holds s w (set_of m) g))))
+
+    pub trial_told : (b : Bool) → Tells b (Over round) → TrialIs s m (trial_of (Ok b) round times)
+    trial_told true h = trial_holds h
+    trial_told false none = trial_fails none

@@ -2,10 +2,13 @@
 #![tactic(auto)]
 
 ghost use Rattle.std.specs.Prelude.{◌≡◌};
-ghost use Rattle.show.specs.Limits.{Tells};
+ghost use Rattle.show.specs.Limits.{Tells, ShowWithin};
+ghost use Rattle.theory.specs.Counts.{round_time};
+ghost use Rattle.theory.specs.Shows.{load_of};
+ghost use Rattle.verdict.specs.Answers.{times_of, set_of};
 ghost use Rattle.count.specs.Answers.{BlockWithin, RateWithin};
-ghost use Rattle.trial.specs.Answers.{TrialIs, trial_of};
-ghost use Rattle.trial.specs.Steps.{Held};
+ghost use Rattle.trial.specs.Answers.{TrialIs};
+ghost use Rattle.trial.specs.Steps.{Held, Holds};
 
 use cost::Cost;
 use count::{fits, need};
@@ -24,60 +27,50 @@ pub struct Trial {
 pub fn tried(show: Show, counts: [u32; 16]) -> Trial
     ensures { TrialIs show counts result }
 {
-    let check = show.check();
-    if let Err(why) = check {
-        return timed(Err(why), 0, [0; 16]);
-    }
-    let drive = show.drive;
-    let mut round: u64 = 0;
-    let mut times: [u64; 16] = [0; 16];
-    let mut i: usize = 0;
-    while i < show.playing {
-        let session = show.sessions[i];
-        let at = session.layout as usize;
-        let cost = Cost::of_read(show.layouts[at]);
-        let worst = cost.takes(drive.cylinder, counts[i]);
-        let Ok(time) = worst else {
-            return timed(Ok(false), 0, times);
+    if let Err(why) = show.check() {
+        return Trial {
+            answer: Err(why),
+            round: 0,
+            times: [0; 16],
         };
-        times[i] = time;
-        round += time;
-        i += 1;
     }
-    let mut k: usize = 0;
-    while k < show.playing {
-        if !held(drive.block, show.sessions[k], round, counts[k]) {
-            return timed(Ok(false), round, times);
-        }
-        k += 1;
-    }
-    timed(Ok(true), round, times)
-}
-
-fn timed(answer: Result<bool, Refusal>, round: u64, times: [u64; 16]) -> Trial
-    ensures { result ≡ trial_of answer round times }
-{
+    let (round, times) = added(&show, &counts);
     Trial {
-        answer,
+        answer: Ok(all_held(&show, &counts, round)),
         round,
         times,
     }
 }
 
-// A session's count fits its buffer and is ahead of its rate over t: so it is at least 1.
+// The sum of the worst times of given counts, and each of them.
+fn added(show: &Show, counts: &[u32; 16]) -> (u64, [u64; 16])
+    requires { ShowWithin show.now }
+    ensures { (result.0 ≡ round_time (load_of show.now) (set_of counts.now)) × (result.1 ≡ times_of (load_of show.now) (set_of counts.now)) }
+{
+    let mut round: u64 = 0;
+    let mut times: [u64; 16] = [0; 16];
+    for i in 0..show.playing {
+        let at = show.sessions[i].layout as usize;
+        let time = Cost::of_read(show.layouts[at])
+            .takes(show.drive.cylinder, counts[i])
+            .unwrap_or(0);
+        times[i] = time;
+        round += time;
+    }
+    (round, times)
+}
+
+fn all_held(show: &Show, counts: &[u32; 16], t: u64) -> bool
+    requires { ShowWithin show.now }
+    ensures { Tells result (Holds (load_of show.now) t (set_of counts.now)) }
+{
+    (0..show.playing).all(|i| held(show.drive.block, show.sessions[i], t, counts[i]))
+}
+
+// A session's count fits its buffer and is ahead of its rate over t: so it is at least 1. Within the limits no rate is refused.
 fn held(block: u32, session: Session, t: u64, count: u32) -> bool
     requires { BlockWithin block × RateWithin session.rate }
     ensures { Tells result (Held block session t count) }
 {
-    if !fits(session, block, count) {
-        return false;
-    }
-    let asked = need(session.rate, block, t);
-    let Ok(least) = asked else {
-        return false;
-    };
-    if (count as u64) < least {
-        return false;
-    }
-    true
+    fits(session, block, count) && need(session.rate, block, t).unwrap_or(u64::MAX) <= count as u64
 }

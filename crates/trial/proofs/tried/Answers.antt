@@ -1,156 +1,29 @@
--- `tried` refuses a show outside the limits, and otherwise tells whether the counts hold, with their times. Invariants: the times of the
--- first i sessions stand there; the counts of the first k hold. What falls: playing - i; playing - k. Assumes nothing.
-use Prim.Native.Nat.{ℕ, ◌≤◌, ◌<◌}
-use mathlib.Core.Path.{◌≡◌, sym, ap, subst, ◌∙◌}
-use native.Mathlib.Omega.{arith}
-use mir.Syntax.{w32}
-use mir.Val.{Fits}
-use borrow.Author.Rules.{rules}
-use Rattle.show.specs.declared.Show.{Show}
-use Rattle.show.specs.Limits.{ShowWithin, layout_at, session_at}
+-- `tried` refuses a show outside the limits, and otherwise tells whether the counts hold, with their times. Assumes nothing.
+use mathlib.Core.Path.{sym, ◌∙◌}
+use Rattle.show.specs.Limits.{ShowWithin}
 use Rattle.show.proofs.Shows.{check_within}
-use Rattle.show.proofs.Checks.{tells_yes, tells_no}
-use Rattle.show.proofs.Lists.{filled_none}
-use Rattle.cost.specs.declared.Cost.{Cost}
-use Rattle.cost.specs.Bound.{worst_time}
-use Rattle.cost.specs.Costs.{read_cost}
-use Rattle.cost.specs.WorstTimes.{takes_of}
-use Rattle.cost.proofs.Costs.{laid_below, layout_within, read_limited}
-use Rattle.cost.proofs.WorstTimes.{takes_granted}
-use Rattle.count.proofs.Answers.{drive_block}
-use Rattle.verdict.specs.Answers.{set_of}
-use Rattle.verdict.specs.Steps.{time_most}
-use Rattle.verdict.proofs.Sets.{times_begun, times_body, times_ended, takes_told, time_same}
-use Rattle.trial.specs.Answers.{TrialIs, untried}
-use Rattle.trial.proofs.Trials.{held_begun, held_body, held_ended, held_broken, trial_holds, trial_fails}
+use Rattle.trial.specs.Answers.{untried}
+use Rattle.trial.proofs.Trials.{trial_told}
 use Rattle.trial.proofs.tried.Goals as goal
-use Rattle.trial.proofs.tried.Goals.{In_default, After-takes-worst, In-Ok}
+use Rattle.trial.proofs.tried.Goals.{In_default}
 
 -- The show is within its limits once 2, 5, 6 and 7 are past.
 within : (c : In_default) → ShowWithin c.args.show
-within c = check_within _ (sym c.check-check.ensures ∙ c.in_default.is)
-
-few : (s : Show) (i : ℕ) → ShowWithin s → i < s.playing → i < 16
-few s i w l = let h = w.counts.sessions in omega arith
-
--- what the call of a turn's time is asked
-asked :
-    (c : After-takes-worst) →
-    let s = c.args.show in
-    c.takes-worst.result
-    ≡ takes_of (read_cost (layout_at s (session_at s c.loop-i.i).layout)) s.drive.cylinder (set_of c.args.counts c.loop-i.i)
-asked c =
-    let n = set_of c.args.counts c.loop-i.i in
-    c.takes-worst.ensures ∙ ap (λ (x : Cost). takes_of x c.args.show.drive.cylinder n) c.of_read-cost.ensures
-
--- the time that a turn adds, and its bound
-told :
-    (c : In-Ok) → ShowWithin c.args.show → c.takes-worst.result
-    ≡ takes_of (read_cost (layout_at c.args.show (session_at c.args.show c.loop-i.i).layout)) c.args.show.drive.cylinder
-    (set_of c.args.counts c.loop-i.i) →
-    let s = c.args.show in
-    let n = set_of c.args.counts c.loop-i.i in
-    (c.in-Ok.time ≡ worst_time s.drive.cylinder (read_cost (layout_at s (session_at s c.loop-i.i).layout)) n)
-    × (c.in-Ok.time ≤ time_most)
-told c w e =
-    let n : Fits w32 (set_of c.args.counts c.loop-i.i) = search rules in
-    takes_told _ _ _ _ (layout_within _ w _ c.loop-i-test.true) w.drive.cylinder (omega arith) (sym e ∙ c.in-Ok.is)
+within c = check_within _ (sym c.check.ensures ∙ c.in_default.is)
 
 pub returns-in-Err : goal.returns-in-Err
-returns-in-Err c = subst (TrialIs _ _) (sym c.timed.ensures) (untried _ (sym c.check-check.ensures ∙ c.in-Err.is))
+returns-in-Err c =
+    untried _ (sym c.check.ensures ∙ c.in-Err.is)
 
-pub loop-i-init : goal.loop-i-init
-loop-i-init c = times_begun _ _ _ (filled_none 16 0 _)
+pub added-round-requires : goal.added-round-requires
+added-round-requires c =
+    within (goal.at.added-round-requires c).In_default
 
-pub offset_bounds-show-i : goal.offset_bounds-show-i
-offset_bounds-show-i c = omega (arith, few _ _ (within (goal.at.offset_bounds-show-i c).In_default) c.loop-i-test.true)
-
-pub bounds-show-i : goal.bounds-show-i
-bounds-show-i c = few _ _ (within (goal.at.bounds-show-i c).In_default) c.loop-i-test.true
-
-pub offset_bounds-show-at : goal.offset_bounds-show-at
-offset_bounds-show-at c = omega (arith, laid_below _ (within (goal.at.offset_bounds-show-at c).In_default) _ c.loop-i-test.true)
-
-pub bounds-show-at : goal.bounds-show-at
-bounds-show-at c = omega (arith, laid_below _ (within (goal.at.bounds-show-at c).In_default) _ c.loop-i-test.true)
-
-pub offset_bounds-counts-i : goal.offset_bounds-counts-i
-offset_bounds-counts-i c = omega (arith, few _ _ (within (goal.at.offset_bounds-counts-i c).In_default) c.loop-i-test.true)
-
-pub bounds-counts-i : goal.bounds-counts-i
-bounds-counts-i c = few _ _ (within (goal.at.bounds-counts-i c).In_default) c.loop-i-test.true
-
-pub returns-in_default-worst : goal.returns-in_default-worst
-returns-in_default-worst c =
-    let at = goal.at.returns-in_default-worst c in
-    let w = within at.In_default in
-    takes_granted _ _ _ w.drive.cylinder (read_limited _ (layout_within _ w _ c.loop-i-test.true))
-    (sym (asked at.After-takes-worst) ∙ c.in_default-worst.is)
-
-pub offset_bounds-times-i : goal.offset_bounds-times-i
-offset_bounds-times-i c = omega (arith, few _ _ (within (goal.at.offset_bounds-times-i c).In_default) c.loop-i-test.true)
-
-pub bounds-times-i : goal.bounds-times-i
-bounds-times-i c = few _ _ (within (goal.at.bounds-times-i c).In_default) c.loop-i-test.true
-
-pub overflow_add-round : goal.overflow_add-round
-overflow_add-round c =
-    let at = goal.at.overflow_add-round c in
-    let w = within at.In_default in
-    let b = (told at.In-Ok w (asked at.After-takes-worst)).1 in
-    let l = few _ _ w c.loop-i-test.true in
-    omega arith
-
-pub loop-i-smaller : goal.loop-i-smaller
-loop-i-smaller c = omega arith
-
-pub loop-i-preserved : goal.loop-i-preserved
-loop-i-preserved c =
-    let at = goal.at.loop-i-preserved c in
-    let w = within at.In_default in
-    let e = told at.In-Ok w (asked at.After-takes-worst) in
-    times_body _ _ _ _ _ _ w c.loop-i.invariant c.loop-i-test.true (e.0 ∙ time_same _ _ _) e.1
-
-pub loop-k-init : goal.loop-k-init
-loop-k-init c = held_begun _ _ _
-
-pub offset_bounds-show-k : goal.offset_bounds-show-k
-offset_bounds-show-k c = omega (arith, few _ _ (within (goal.at.offset_bounds-show-k c).In_default) c.loop-k-test.true)
-
-pub bounds-show-k : goal.bounds-show-k
-bounds-show-k c = few _ _ (within (goal.at.bounds-show-k c).In_default) c.loop-k-test.true
-
-pub offset_bounds-counts-k : goal.offset_bounds-counts-k
-offset_bounds-counts-k c = omega (arith, few _ _ (within (goal.at.offset_bounds-counts-k c).In_default) c.loop-k-test.true)
-
-pub bounds-counts-k : goal.bounds-counts-k
-bounds-counts-k c = few _ _ (within (goal.at.bounds-counts-k c).In_default) c.loop-k-test.true
-
-pub held-requires : goal.held-requires
-held-requires c =
-    let w = within (goal.at.held-requires c).In_default in
-    (drive_block _ w.drive, (w.sessions _ c.loop-k-test.true).rate)
-
-pub returns-then-not-held : goal.returns-then-not-held
-returns-then-not-held c =
-    let w = within (goal.at.returns-then-not-held c).In_default in
-    let r = times_ended _ _ _ _ _ w c.loop-i.invariant c.loop-i-test.false in
-    subst (TrialIs _ _) (sym c.timed-then-not-held.ensures)
-    (trial_fails _ w _ _ _ r.0 r.1
-    (held_broken _ _ _ _ c.loop-k-test.true (tells_no _ c.held.result c.if-not-held.true c.held.ensures)))
-
-pub loop-k-smaller : goal.loop-k-smaller
-loop-k-smaller c =
-    omega arith
-
-pub loop-k-preserved : goal.loop-k-preserved
-loop-k-preserved c =
-    held_body _ _ _ _ c.loop-k.invariant c.loop-k-test.true
-    (tells_yes _ c.held.result c.if-not-held.false c.held.ensures)
+pub all_held-requires : goal.all_held-requires
+all_held-requires c =
+    within (goal.at.all_held-requires c).In_default
 
 pub returns : goal.returns
 returns c =
     let w = within (goal.at.returns c).In_default in
-    let r = times_ended _ _ _ _ _ w c.loop-i.invariant c.loop-i-test.false in
-    subst (TrialIs _ _) (sym c.timed-2.ensures)
-    (trial_holds _ w _ _ _ r.0 r.1 (held_ended _ _ _ _ c.loop-k.invariant c.loop-k-test.false))
+    trial_told _ w _ _ _ c.added-round.ensures.0 c.added-round.ensures.1 _ c.all_held.ensures
