@@ -1,5 +1,5 @@
 -- What each call answers, case by case. Assumes nothing.
-use Rattle.std.specs.Prelude.{Ok, Err, Some, None, Result}
+use Rattle.std.specs.Prelude.{Ok, Err, None, Result}
 use Prim.Native.Nat.{ℕ, ◌≤◌, ◌<◌}
 use mathlib.Core.Path.{◌≡◌, refl, sym, ap, ◌∙◌}
 use mathlib.Core.Bool.{true, false}
@@ -22,7 +22,6 @@ use Rattle.run.specs.Run.{playing, clip_at, state_at, left_in}
 use Rattle.run.specs.Sound.{SoundRun, NamesEach}
 use Rattle.state.specs.Decisions.{false?}
 use Rattle.run.specs.Answers.{moved, free_check}
-use Rattle.state.proofs.States.{true_false}
 use Rattle.run.proofs.Orders.{names_below}
 use Rattle.run.proofs.Answered.{damaged_first, sound_then, granted, refused, moved_refused, moved_granted}
 use Rattle.run.specs.declared.Moved.{Moved}
@@ -59,12 +58,6 @@ module _ (r : Run) (i : ℕ) where
   workahead_damaged n = spared_refused _ _ r refusal.Damaged (damaged_first r _ n)
 
   module _ (s : SoundRun r) where
-    pub workahead_nobody : playing r ≤ i → untimed r refusal.NoSession ≡ workahead_of r i
-    unfolding workahead_of
-    workahead_nobody l =
-        spared_refused _ _ r refusal.NoSession
-        (sound_then r _ s ∙ unless_broken (dec_lt i (playing r)) refusal.NoSession (λ g. let f : ⊥ = omega arith in f))
-
     pub workahead_time : (z : ℤ) → i < playing r → z ≡ ahead_at r i → timed z r ≡ workahead_of r i
     unfolding workahead_of
     workahead_time z l e =
@@ -123,21 +116,9 @@ module _ (r : Run) where
   start_damaged n = moved_refused _ r _ refusal.Damaged (damaged_first r _ n)
 
   module _ (s : SoundRun r) where
-    pub start_again : r.started ≡ true → refused r refusal.AlreadyStarted ≡ start_of r
-    unfolding start_of start_check
-    start_again e =
-        moved_refused _ r _ refusal.AlreadyStarted
-        (sound_then r _ s
-        ∙ first_refused _ _ (unless_broken (false? r.started) refusal.AlreadyStarted (λ g. true_false (sym e ∙ g))))
-
     module _ (e : r.started ≡ false) where
       fresh : (c : Check) → first (once_check r) c ≡ c
       fresh c = first_within _ c (unless_kept (false? r.started) refusal.AlreadyStarted e)
-
-      pub start_busy : (i : ℕ) → r.underway ≡ Some i → refused r refusal.ReadUnderway ≡ start_of r
-      unfolding start_of start_check
-      start_busy i u =
-          moved_refused _ r _ refusal.ReadUnderway (sound_then r _ s ∙ fresh _ ∙ first_refused _ _ (ap free_check u))
 
       module _ (u : r.underway ≡ None) where
         free : (c : Check) → first (free_check r.underway) c ≡ c

@@ -1,6 +1,5 @@
 -- Demand 3, the spare time: a lighter run has no less to spare, where no session is behind its cushion at a lowered rate; and wherever
 -- the heavier has 0 or more. Assumes nothing.
-use Rattle.std.specs.Prelude.{ℤ}
 use Prim.Native.Nat.{ℕ, ◌+◌, ◌*◌, ◌≤◌, ◌<◌}
 use mathlib.Core.Path.{sym, subst}
 use mathlib.Core.Logic.{inl, inr}

@@ -1,5 +1,5 @@
 -- What each call answers: docs/RULES.md, section 10.
-use Rattle.std.specs.Prelude.{ℕ, ℤ, pos, Ok, Err, false}
+use Rattle.std.specs.Prelude.{ℕ, ℤ, pos, Ok, Err}
 use Rattle.std.proofs.Math.Logic.{ite}
 use Rattle.std.proofs.Math.Decide.{dec_lt}
 use Rattle.show.specs.Outcomes.{Check}

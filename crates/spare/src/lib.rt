@@ -19,6 +19,7 @@ use standing::{Standing, slack_in, stand};
 use workahead::ahead_of;
 
 // The answer, and the run as it was given.
+// A struct and no Result: theorem HandsBack (crates/promises/specs/Runs.antt) says which run stands beside a refusal.
 #[derive(Clone, Copy)]
 pub struct Spared {
     pub spare: Result<i64, Refusal>,
@@ -26,40 +27,38 @@ pub struct Spared {
 }
 
 // How far a session is ahead of its player: 19, 9.
+#[tactic(auto, unfolding(crate::specs::Answers::workahead_of))]
 pub fn workahead(run: Run, session: usize) -> Spared
     ensures { result ≡ workahead_of run session }
 {
+    let refused = |why| Spared {
+        spare: Err(why),
+        run,
+    };
     let Test::Sound = test_run(run) else {
-        return Spared {
-            spare: Err(Refusal::Damaged),
-            run,
-        };
+        return refused(Refusal::Damaged);
     };
     if run.show.playing <= session {
-        return Spared {
-            spare: Err(Refusal::NoSession),
-            run,
-        };
+        return refused(Refusal::NoSession);
     }
-    let show = run.show;
     Spared {
-        spare: ahead_of(show.sessions[session], run.states[session]),
+        spare: ahead_of(run.show.sessions[session], run.states[session]),
         run,
     }
 }
 
 // What the run has to spare before some picture could freeze: 19, 9.
+#[tactic(auto, unfolding(crate::specs::Answers::slack_of, standing::specs::Answers::stood_of))]
 pub fn slack(run: Run) -> Spared
     ensures { result ≡ slack_of run }
 {
     let stood = stand(run);
-    let check = stood.check;
-    let Ok(()) = check else {
+    if let Err(why) = stood.check {
         return Spared {
-            spare: Err(Refusal::Damaged),
+            spare: Err(why),
             run,
         };
-    };
+    }
     Spared {
         spare: slack_in(stood.standing),
         run,
@@ -67,29 +66,23 @@ pub fn slack(run: Run) -> Spared
 }
 
 // The players start: 19, 18, 13, 9, 15.
+#[tactic(auto, unfolding(crate::specs::Answers::start_of, crate::specs::Answers::start_check, standing::specs::Answers::stood_of))]
 pub fn start(run: Run) -> Moved
     ensures { result ≡ start_of run }
 {
-    let stood = stand(run);
-    let check = stood.check;
-    let Ok(()) = check else {
-        return Moved {
-            check: Err(Refusal::Damaged),
-            run,
-        };
+    let refused = |why| Moved {
+        check: Err(why),
+        run,
     };
-    if run.started {
-        return Moved {
-            check: Err(Refusal::AlreadyStarted),
-            run,
-        };
+    let stood = stand(run);
+    if let Err(why) = stood.check {
+        return refused(why);
     }
-    let underway = run.underway;
-    let None = underway else {
-        return Moved {
-            check: Err(Refusal::ReadUnderway),
-            run,
-        };
+    if run.started {
+        return refused(Refusal::AlreadyStarted);
+    }
+    let None = run.underway else {
+        return refused(Refusal::ReadUnderway);
     };
     begin(run, stood.standing)
 }
@@ -99,22 +92,19 @@ fn begin(run: Run, standing: Standing) -> Moved
     requires { SoundRun run × (standing ≡ standing_of run) }
     ensures { result ≡ moved (first (some_check run) (slack_check run)) run (running run) }
 {
+    let refused = |why| Moved {
+        check: Err(why),
+        run,
+    };
     let Ok(spare) = slack_in(standing) else {
-        return Moved {
-            check: Err(Refusal::NoSession),
-            run,
-        };
+        return refused(Refusal::NoSession);
     };
     if spare < 0 {
-        return Moved {
-            check: Err(Refusal::NegativeSlack),
-            run,
-        };
+        return refused(Refusal::NegativeSlack);
     }
-    let places = standing.places;
     Moved {
         check: Ok(()),
-        run: cycling(run, places),
+        run: cycling(run, standing.places),
     }
 }
 
@@ -124,14 +114,12 @@ fn cycling(run: Run, places: [usize; 16]) -> Run
     requires run_nonzero { (0 < playing run) × (places ≡ places_of (ahead_in (aheads_of run)) (playing run)) }
     ensures { result ≡ running run }
 {
-    let was = run.order;
-    let order = ordered(was, places, run.show.playing);
-    let counts = run.counts;
-    let left = left_in(counts, order, 0);
-    let mut next = run;
-    next.order = order;
-    next.place = 0;
-    next.left = left;
-    next.started = true;
-    next
+    let order = ordered(run.order, places, run.show.playing);
+    Run {
+        order,
+        place: 0,
+        left: left_in(run.counts, order, 0),
+        started: true,
+        ..run
+    }
 }

@@ -64,10 +64,6 @@ stood_sound r t e h = from (sound_check r) refl (sym (ap (λ (x : Stood). x.chec
     from (Ok tt) f g = unless_within (sound? r) refusal.Damaged f
     from (Err w) f g = within_refused (sym g)
 
-pub stood_damaged : (r : Run) (t : Stood) {w : Refusal} → t ≡ stood_of r → t.check ≡ Err w → SoundRun r → ⊥
-stood_damaged r t e h s =
-    within_refused (ap (λ (x : Stood). x.check) (stand_stands r (standing_of r) s refl ∙ sym e) ∙ h)
-
 module _ (r : Run) (s : SoundRun r) where
   pub stood_standing : (t : Stood) → t ≡ stood_of r → t.standing ≡ standing_of r
   stood_standing t e = ap (λ (x : Stood). x.standing) (e ∙ sym (stand_stands r (standing_of r) s refl))

@@ -4,7 +4,9 @@ use mathlib.Core.Path.{◌≡◌, sym, ap, ◌∙◌}
 use Rattle.standing.specs.declared.Standing.{Standing}
 use Rattle.standing.specs.Times.{slack_time}
 use Rattle.standing.specs.Answers.{slack_for}
+use Rattle.show.specs.declared.refusal.Refusal.TheVariants as refusal
 use Rattle.run.specs.Run.{playing}
+use Rattle.run.proofs.Answered.{refused}
 use mir.Syntax.{w64}
 use mir.Val.{to_z, of_z}
 use borrow.Author.Rules.{rules}
@@ -23,18 +25,18 @@ read c = let fits : to_z w64 (of_z w64 c.in-Ok.spare) ≡ c.in-Ok.spare = search
 
 pub returns-in_default : goal.returns-in_default
 returns-in_default c =
-    begin_empty _ (run_refused _ c.requires.0 (ap slack_for (sym c.requires.1) ∙ sym c.slack_in.ensures ∙ c.in_default.is))
+    let e : c.refused.result ≡ refused c.args.run refusal.NoSession = search rules in
+    e ∙ begin_empty _ (run_refused _ c.requires.0 (ap slack_for (sym c.requires.1) ∙ sym c.slack_in.ensures ∙ c.in_default.is))
 
 pub returns-then-spare-lt0 : goal.returns-then-spare-lt0
 returns-then-spare-lt0 c =
     let p = (goal.at.returns-then-spare-lt0 c).In-Ok in
-    begin_negative c.args.run (test_less (rw (read p) at c.if-spare-lt0.true)) ∙ begin_some c.args.run (told p).0
+    let e : c.refused-then-spare-lt0.result ≡ refused c.args.run refusal.NegativeSlack = search rules in
+    e ∙ begin_negative c.args.run (test_less (rw (read p) at c.if-spare-lt0.true)) ∙ begin_some c.args.run (told p).0
 
-pub cycling-requires : goal.cycling-requires
-cycling-requires c = record {
-  sound_run = c.requires.0;
-  run_nonzero = ((told (goal.at.cycling-requires c).In-Ok).0, ap (λ (t : Standing). t.places) c.requires.1);
-}
+pub cycling-requires-clause-run_nonzero : goal.cycling-requires-clause-run_nonzero
+cycling-requires-clause-run_nonzero c =
+    ((told (goal.at.cycling-requires-clause-run_nonzero c).In-Ok).0, ap (λ (t : Standing). t.places) c.requires.1)
 
 pub returns : goal.returns
 returns c =

@@ -16,4 +16,4 @@ returns c =
     ∙ ordered_few _ _ _ c.requires.sound_run.within.counts.sessions
     ∙ named_same _ _ (playing c.args.run) _
     (λ i l. ap (λ (p : List ℕ). place_in p i) c.requires.run_nonzero.1 ∙ place_in_is c.args.run i l) in
-    cycling_is _ _ _ order_is c.left_in-left.ensures
+    cycling_is _ _ _ order_is c.left_in.ensures
