@@ -11,38 +11,20 @@ const TRAILER: usize = 20;
 // ---- what is read
 
 pub(crate) fn reads(file: &mut [u8], turns: u64) -> u64 {
-    by_turns(file, turns, read)
+    over(turns, |k| read(turned(file, k)))
 }
 
 pub(crate) fn reports(file: &mut [u8], turns: u64) -> u64 {
-    by_turns(file, turns, report)
+    over(turns, |k| report(turned(file, k)))
 }
 
-// Asks of the file as it is, and with the lowest bit of N turned, by turns.
-fn by_turns<F: Fn(&[u8]) -> u64>(file: &mut [u8], turns: u64, ask: F) -> u64
-    requires { (f : F) → F.IsAlwaysCallable f }
-{
-    let low = low_of(file);
-    over(turns, |k| {
-        change(file, low ^ odd(k) as u8);
-        ask(file)
-    })
-}
-
-// The lowest byte of N; 0 where the file is too short for one.
-fn low_of(file: &[u8]) -> u8 {
-    if file.len() < TRAILER {
-        return 0;
-    }
-    file[file.len() - BACK]
-}
-
-fn change(file: &mut [u8], low: u8) {
+// The file of turn k: the lowest bit of N is turned after each turn. A file that is too short for N stays.
+fn turned(file: &mut [u8], k: u64) -> &[u8] {
     let n = file.len();
-    if n < TRAILER {
-        return;
+    if TRAILER <= n && 0 < k {
+        file[n - BACK] ^= 1;
     }
-    file[n - BACK] = low;
+    file
 }
 
 fn read(file: &[u8]) -> u64 {
@@ -86,4 +68,13 @@ fn write(show: Show, note: &[u8]) -> u64 {
         n as u64,
         buffer.get(..n).map_or(0, low_of) as u64,
     ])
+}
+
+// The lowest byte of N in a file that was written; 0 where none was.
+fn low_of(file: &[u8]) -> u8 {
+    let n = file.len();
+    if n < TRAILER {
+        return 0;
+    }
+    file[n - BACK]
 }
