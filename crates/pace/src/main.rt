@@ -121,6 +121,7 @@ fn run_job<F: FnOnce(Run, u64) -> u64>(show: Show, turns: u64, job: F) -> Option
 
 // ---- what is printed
 
+// A kind is bytes, as it was read: `println!` prints text alone.
 fn say(rt: &impl Print, text: &[u8]) {
     let _ = rt.write_all(text);
 }
