@@ -70,8 +70,10 @@ split_first mark (b ∷ text) = from (ℕ_discrete b mark) (split_first mark tex
         (d : Dec (b ≡ mark)) →
         (slice_split p text ≡ take (find_of mark text) text ∷ slice_split p (rest_of mark text))
         ⊎ ((slice_split p text ≡ take (find_of mark text) text ∷ []) × (rest_of mark text ≡ [])) →
-        (slice_split p (b ∷ text) ≡ take (ite d 0 (suc (find_of mark text))) (b ∷ text) ∷ slice_split p (drop (ite d 0 (suc (find_of mark text)) + 1) (b ∷ text)))
-        ⊎ ((slice_split p (b ∷ text) ≡ take (ite d 0 (suc (find_of mark text))) (b ∷ text) ∷ []) × (drop (ite d 0 (suc (find_of mark text)) + 1) (b ∷ text) ≡ []))
+        (slice_split p (b ∷ text)
+        ≡ take (ite d 0 (suc (find_of mark text))) (b ∷ text) ∷ slice_split p (drop (ite d 0 (suc (find_of mark text)) + 1) (b ∷ text)))
+        ⊎ ((slice_split p (b ∷ text) ≡ take (ite d 0 (suc (find_of mark text))) (b ∷ text) ∷ [])
+        × (drop (ite d 0 (suc (find_of mark text)) + 1) (b ∷ text) ≡ []))
     from (yes e) h = inl (rw (eq-eqb b mark e))
     from (no e) (inl f) = inl (rw (ne_eqb b mark e) (ap (onto_first b) f ∙ ap (λ (t : List ℕ). (b ∷ take (find_of mark text) text) ∷ slice_split p t) past))
     from (no e) (inr f) = inr (rw (ne_eqb b mark e) (ap (onto_first b) f.0), sym past ∙ f.1)

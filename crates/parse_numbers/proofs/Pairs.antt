@@ -42,7 +42,9 @@ pairs_length [] l e = let k : [] ≡ l = cc in rw (sym k)
 pairs_length (a ∷ []) l e = are_none (sym e)
 pairs_length (a ∷ b ∷ text) l e = from (byte_of a b) (pairs_of text) (pairs_length text) e
   where
-    from : (x : (Option ℕ)) (y : Bytes) → ((m : List ℕ) → y ≡ Some m → length text ≡ 2 * length m) → joined x y ≡ Some l → suc (suc (length text)) ≡ 2 * length l
+    from :
+        (x : (Option ℕ)) (y : Bytes) → ((m : List ℕ) → y ≡ Some m → length text ≡ 2 * length m) → joined x y ≡ Some l →
+        suc (suc (length text)) ≡ 2 * length l
     from (Some v) (Some m) p g = let k : v ∷ m ≡ l = cc in let q = ap length k in omega (arith, p m refl)
     from (Some v) None p g = are_none (sym g)
     from None y p g = are_none (sym g)

@@ -44,8 +44,10 @@ pairs_byte (a ∷ b ∷ text) (suc i) h =
     rw (d, e) (from (byte_of a b) (pairs_of text) (pairs_byte text i) h)
   where
     from :
-        (x : (Option ℕ)) (y : Bytes) → (i < length (list_of y) → unwrap_or (byte_of (get_or text (2 * i) 0) (get_or text (2 * i + 1) 0)) 0 ≡ get_or (list_of y) i 0) →
-        suc i < length (list_of (joined x y)) → unwrap_or (byte_of (get_or text (2 * i) 0) (get_or text (2 * i + 1) 0)) 0 ≡ get_or (list_of (joined x y)) (suc i) 0
+        (x : (Option ℕ)) (y : Bytes) →
+        (i < length (list_of y) → unwrap_or (byte_of (get_or text (2 * i) 0) (get_or text (2 * i + 1) 0)) 0 ≡ get_or (list_of y) i 0) →
+        suc i < length (list_of (joined x y)) →
+        unwrap_or (byte_of (get_or text (2 * i) 0) (get_or text (2 * i + 1) 0)) 0 ≡ get_or (list_of (joined x y)) (suc i) 0
     from (Some v) (Some l) p g = p (omega arith)
     from (Some v) None p g = absurd (let f : ⊥ = omega arith in f)
     from None y p g = absurd (let f : ⊥ = omega arith in f)
