@@ -1,7 +1,7 @@
 -- Sets as rows: the counts that a time asks for, and the times of given counts. Assumes nothing.
 use Rattle.std.specs.Prelude.{Ok}
 use Prim.Native.Nat.{ℕ, ◌+◌, ◌*◌, ◌≤◌, ◌<◌}
-use mathlib.Core.Path.{◌≡◌, sym, ◌∙◌, ap, subst}
+use mathlib.Core.Path.{◌≡◌, sym, ◌∙◌, ap}
 use mathlib.Core.List.{List}
 use native.Mathlib.Omega.{arith}
 use lib.ListN.{set}
@@ -16,7 +16,7 @@ use Rattle.cost.specs.Costs.{read_cost}
 use Rattle.cost.specs.WorstTimes.{takes_of}
 use Rattle.cost.proofs.Bound.{worst_below}
 use Rattle.cost.proofs.Costs.{cost_read, read_limited}
-use Rattle.cost.proofs.WorstTimes.{takes_is}
+use Rattle.cost.proofs.WorstTimes.{takes_known}
 use Rattle.theory.specs.Sum.{sum_to}
 use Rattle.theory.specs.Counts.{Load, Smallest}
 use Rattle.theory.specs.Shows.{load_of}
@@ -69,23 +69,14 @@ times_body s f sum out i u w h l e g =
 
 -- What `takes` answers of reads on a layout within its limits: U, small enough for the sum of a round.
 pub takes_told :
-    (x : Layout) (N n t : ℕ) → LayoutWithin x → Between 1 N 65536 → n ≤ 4294967295 → takes_of (read_cost x) N n ≡ Ok t →
-    (t ≡ worst_time N (read_cost x) n) × (t ≤ time_most)
-takes_told x N n t w b few told =
-    let l = read_limited x w in
-    let e = takes_is _ _ _ b l told in
-    (e, subst (λ (t : ℕ). t ≤ time_most) (sym e) (worst_below N 4294967295 _ l n few))
+    (x : Layout) (N n : ℕ) → LayoutWithin x → Between 1 N 65536 → n ≤ 4294967295 →
+    (takes_of (read_cost x) N n ≡ Ok (worst_time N (read_cost x) n)) × (worst_time N (read_cost x) n ≤ time_most)
+takes_told x N n w b few =
+    let l = read_limited x w in (takes_known _ _ _ b l, worst_below N 4294967295 _ l n few)
 
 -- U of a session is that of reads on its layout.
 pub time_same : (s : Show) (i n : ℕ) → worst_time s.drive.cylinder (read_cost (layout_at s (session_at s i).layout)) n ≡ ((load_of s).stream i).time n
 time_same s i n = ap (λ (c : Cost). worst_time s.drive.cylinder c n) (cost_read s i)
-
-pub times_ended :
-    (s : Show) (f : ℕ → ℕ) (sum : ℕ) (out : List ℕ) (i : ℕ) → ShowWithin s → TimedTo s f sum out i → s.playing ≤ i →
-    (sum ≡ sum_to f s.playing) × (out ≡ row (load_of s) f)
-times_ended s f sum out i w h l =
-    let a = h.times.inside in
-    (h.adds ∙ ap (sum_to f) (omega arith), row_ended s f out i h.times l)
 
 -- ---- rows as sets
 

@@ -12,12 +12,10 @@ use Rattle.cost.specs.declared.Cost.{Cost}
 use Rattle.cost.specs.Bound.{worst_time}
 use Rattle.cost.specs.Costs.{read_cost}
 use Rattle.cost.specs.WorstTimes.{takes_of}
-use Rattle.cost.proofs.Bound.{worst_below}
-use Rattle.cost.proofs.Costs.{layout_within, read_limited}
-use Rattle.cost.proofs.WorstTimes.{takes_known}
+use Rattle.cost.proofs.Costs.{layout_within}
 use Rattle.verdict.specs.Answers.{set_of}
 use Rattle.verdict.specs.Steps.{time_most}
-use Rattle.verdict.proofs.Sets.{times_begun, times_body, time_same}
+use Rattle.verdict.proofs.Sets.{times_begun, times_body, takes_told, time_same}
 use Rattle.trial.proofs.added.Goals as goal
 use Rattle.trial.proofs.added.Goals.{After-unwrap_or-time}
 
@@ -32,11 +30,11 @@ told c =
     let s = c.args.show.now in
     let n = set_of c.args.counts.now c.loop-i.i in
     let few : Fits w32 n = search rules in
-    let l = read_limited _ (layout_within _ c.requires _ c.loop-i-test.true) in
+    let t = takes_told _ s.drive.cylinder n (layout_within _ c.requires _ c.loop-i-test.true) c.requires.drive.cylinder (omega arith) in
     let known : c.takes.result ≡ Ok (worst_time s.drive.cylinder (read_cost (layout_at s (session_at s c.loop-i.i).layout)) n) =
-    c.takes.ensures ∙ ap (λ (x : Cost). takes_of x s.drive.cylinder n) c.of_read.ensures ∙ takes_known _ _ _ c.requires.drive.cylinder l in
+    c.takes.ensures ∙ ap (λ (x : Cost). takes_of x s.drive.cylinder n) c.of_read.ensures ∙ t.0 in
     let e = rw known at c.unwrap_or-time.ensures in
-    (e, rw e (worst_below s.drive.cylinder 4294967295 _ l n (omega arith)))
+    (e, rw e t.1)
 
 pub loop-i-init : goal.loop-i-init
 loop-i-init c =
