@@ -1,12 +1,12 @@
 // The test of refusal 19: whether a run record is sound. docs/RULES.md, section 9.
 #![tactic(auto)]
 
-ghost use Rattle.std.specs.Prelude.{◌≡◌, ◌+◌, ◌≤◌};
+ghost use Rattle.std.specs.Prelude.{ℕ, ◌≡◌, ◌+◌, ◌≤◌, ◌<◌, Some};
 ghost use Rattle.show.specs.Limits.{Tells};
 ghost use Rattle.state.specs.State.{Room, put_most};
-ghost use Rattle.run.specs.Sound.{NamesEach};
+ghost use Rattle.run.specs.Run.{playing};
+ghost use Rattle.run.specs.Sound.{NamesEach, CycleSound, Resting, Turning, MayRead};
 ghost use Rattle.run_test.specs.Answers.{test_of};
-ghost use Rattle.run_test.specs.Steps.{test_if, AtRest, AtPlace, UnderwayAt};
 
 use run::Run;
 use show::Session;
@@ -14,6 +14,7 @@ use state::State;
 use trial::tried;
 
 // What the test of a record tells. An enum and no bool: the rule of docs/DECISIONS.md, "Forms", has each call take it apart by `let .. else`.
+// So a sound run is no type of its own either, and `SoundRun` stands in what the functions behind the test require.
 #[derive(Clone, Copy)]
 pub enum Test {
     Sound,
@@ -34,29 +35,11 @@ pub fn test_run(run: Run) -> Test
             return Test::Damaged;
         }
     }
-    if !names_each(run.order, playing) {
-        return Test::Damaged;
+    if names_each(run.order, playing) && is_cycle_sound(&run) {
+        Test::Sound
+    } else {
+        Test::Damaged
     }
-    if playing == 0 {
-        return told(rests(run.place, run.left, run.underway));
-    }
-    if !turns(run.order, run.counts, playing, run.place, run.left) {
-        return Test::Damaged;
-    }
-    let seat = run.order[run.place] as usize;
-    told(may_read(
-        run.underway,
-        seat,
-        run.states[seat],
-        run.show.sessions[seat],
-        run.show.drive.block,
-    ))
-}
-
-fn told(sound: bool) -> Test
-    ensures { result ≡ test_if sound }
-{
-    if sound { Test::Sound } else { Test::Damaged }
 }
 
 // Whether the first places of an order name each of so many sessions once: each is one of them, and none was named before.
@@ -75,35 +58,54 @@ fn names_each(order: [u32; 16], playing: usize) -> bool
     true
 }
 
-// Whether a cycle of nobody is at its beginning.
-fn rests(place: usize, left: u32, underway: Option<usize>) -> bool
-    ensures { Tells result (AtRest place left underway) }
+// Whether the cycle is where it may be, once the order is known to name each session once.
+fn is_cycle_sound(run: &Run) -> bool
+    requires playing_bound { playing run.now ≤ 16 }
+    requires names_each { NamesEach run.now.order (playing run.now) }
+    ensures { Tells result (CycleSound run.now) }
 {
-    place == 0 && left == 0 && underway.is_none()
+    if run.show.playing == 0 {
+        rests(run)
+    } else {
+        turns(run) && may_read(run)
+    }
 }
 
-// Whether the cycle is at one of its places, and 1 to M of the count there is left, once the order is known to name each session once.
-fn turns(order: [u32; 16], counts: [u32; 16], playing: usize, place: usize, left: u32) -> bool
-    requires playing_bound { playing ≤ 16 }
-    requires names_each { NamesEach order playing }
-    ensures { Tells result (AtPlace order counts playing place left) }
+// Whether a cycle of nobody is at its beginning.
+fn rests(run: &Run) -> bool
+    ensures { Tells result (Resting run.now) }
 {
-    place < playing && (1..=counts[order[place] as usize]).contains(&left)
+    run.place == 0 && run.left == 0 && run.underway.is_none()
+}
+
+// Whether the cycle is at one of its places, and 1 to M of the count there is left.
+fn turns(run: &Run) -> bool
+    requires playing_bound { playing run.now ≤ 16 }
+    requires names_each { NamesEach run.now.order (playing run.now) }
+    ensures { Tells result (Turning run.now) }
+{
+    run.place < run.show.playing
+        && (1..=run.counts[run.order[run.place] as usize]).contains(&run.left)
 }
 
 // Whether a read that is under way is one of the session at the place, and may be.
-fn may_read(
-    underway: Option<usize>,
-    seat: usize,
-    state: State,
-    session: Session,
-    block: u32,
-) -> bool
-    ensures { Tells result (UnderwayAt underway seat state session block) }
+fn may_read(run: &Run) -> bool
+    requires playing_bound { playing run.now ≤ 16 }
+    requires names_each { NamesEach run.now.order (playing run.now) }
+    requires place { run.now.place < playing run.now }
+    ensures { Tells result ((i : ℕ) → run.now.underway ≡ Some i → MayRead run.now i) }
 {
-    match underway {
+    let seat = run.order[run.place] as usize;
+    match run.underway {
         None => true,
-        Some(read) => read == seat && takes_one(state, session, block),
+        Some(read) => {
+            read == seat
+                && takes_one(
+                    run.states[seat],
+                    run.show.sessions[seat],
+                    run.show.drive.block,
+                )
+        }
     }
 }
 

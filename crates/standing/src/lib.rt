@@ -84,6 +84,7 @@ fn survey(run: &Run) -> Standing
 {
     let playing = run.show.playing;
     let aheads = aheads(run);
+    // Two variables first: the check does not follow what a call answers straight into a field that is an array.
     let times = tried(run.show, run.counts).times;
     let places = places(aheads, playing);
     Standing {

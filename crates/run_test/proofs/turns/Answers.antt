@@ -3,5 +3,5 @@ use native.Mathlib.Omega.{arith}
 use Rattle.run.proofs.Orders.{names_below}
 use Rattle.run_test.proofs.turns.Goals as goal
 
-pub bounds-counts-order : goal.bounds-counts-order
-bounds-counts-order c = let b = names_below _ _ c.requires.names_each _ c.if-place-playing.true in omega arith
+pub bounds-run-run-then-run : goal.bounds-run-run-then-run
+bounds-run-run-then-run c = let b = names_below _ _ c.requires.names_each _ c.if-run.true in omega arith
