@@ -64,15 +64,6 @@ pub fn refused(why: Refusal) -> Reading
     }
 }
 
-fn answer(check: Result<(), Refusal>, show: Show, note: usize) -> Reading
-    ensures { result ≡ reading check show note }
-{
-    match check {
-        Ok(()) => Reading { check, show, note },
-        Err(why) => refused(why),
-    }
-}
-
 // The show whose first layout a part of a file begins with.
 fn get_show(s: &[u8], t: Trailer) -> Show
     requires { (t.laid ≤ 8) × (t.playing ≤ 16) × (16 * (t.laid + t.playing) ≤ length s.now) }
@@ -95,7 +86,14 @@ fn read_limits(file: &[u8], at: usize, t: Trailer) -> Reading
 {
     let note = at - 16 * (t.laid + t.playing);
     let show = get_show(&file[note..], t);
-    answer(show.check(), show, note)
+    match show.check() {
+        Ok(()) => Reading {
+            check: Ok(()),
+            show,
+            note,
+        },
+        Err(why) => refused(why),
+    }
 }
 
 // The show in a file and the length of its note; or 1 to 7, in this order.

@@ -18,8 +18,8 @@ use showfile::trailer::Trailer;
 use showfile::{Reading, Written};
 
 // 2, 4, 5, 6, 7, 16, of a buffer of `room` bytes.
-fn check_write(show: Show, note: &[u8], room: usize) -> Result<(), Refusal>
-    ensures { result ≡ write_check show note.now room }
+fn check_write(show: &Show, note: &[u8], room: usize) -> Result<(), Refusal>
+    ensures { result ≡ write_check show.now note.now room }
 {
     if !Show::counts_within(show.laid, show.playing) {
         return Err(Refusal::Counts);
@@ -35,11 +35,11 @@ fn check_write(show: Show, note: &[u8], room: usize) -> Result<(), Refusal>
 }
 
 // Writes a file whose counts have been found good and which fits, and answers its length.
-fn put_file(show: Show, note: &[u8], buffer: &mut [u8]) -> usize
-    requires counts { CountsWithin show.laid show.playing }
-    requires fits { length note.now + 16 * (show.laid + show.playing) + 20 ≤ length buffer.old }
-    ensures value { result ≡ length (file_of show note.now) }
-    ensures buffer_after { buffer.new ≡ file_of show note.now ++ drop (length (file_of show note.now)) buffer.old }
+fn put_file(show: &Show, note: &[u8], buffer: &mut [u8]) -> usize
+    requires counts { CountsWithin show.now.laid show.now.playing }
+    requires fits { length note.now + 16 * (show.now.laid + show.now.playing) + 20 ≤ length buffer.old }
+    ensures value { result ≡ length (file_of show.now note.now) }
+    ensures buffer_after { buffer.new ≡ file_of show.now note.now ++ drop (length (file_of show.now note.now)) buffer.old }
 {
     let first = note.len();
     let second = first + show.laid * 16;
@@ -56,10 +56,10 @@ pub fn write(show: Show, note: &[u8], buffer: &mut [u8]) -> Written
     ensures value { result ≡ written_of show note.now (length buffer.old) }
     ensures buffer_after { buffer.new ≡ buffer_of show note.now buffer.old }
 {
-    match check_write(show, note, buffer.len()) {
+    match check_write(&show, note, buffer.len()) {
         Ok(()) => Written {
             check: Ok(()),
-            len: put_file(show, note, buffer),
+            len: put_file(&show, note, buffer),
         },
         Err(why) => Written {
             check: Err(why),

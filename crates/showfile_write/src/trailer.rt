@@ -9,9 +9,9 @@ use show::Show;
 use showfile::trailer::Trailer;
 
 #[tactic(auto, unfolding(showfile::specs::File::trailer_for))]
-pub(crate) fn trailer_of(show: Show) -> Trailer
-    requires { CountsWithin show.laid show.playing }
-    ensures { result ≡ trailer_for show }
+pub(crate) fn trailer_of(show: &Show) -> Trailer
+    requires { CountsWithin show.now.laid show.now.playing }
+    ensures { result ≡ trailer_for show.now }
 {
     Trailer {
         drive: show.drive,

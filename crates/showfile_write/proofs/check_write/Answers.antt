@@ -15,13 +15,13 @@ use borrow.Author.Rules.{rules}
 use Rattle.showfile_write.proofs.check_write.Goals.{Else-not-counts_within, In_ok-check}
 use Rattle.showfile_write.proofs.check_write.Goals as goal
 
-counts : (c : Else-not-counts_within) → CountsWithin c.args.show.laid c.args.show.playing
+counts : (c : Else-not-counts_within) → CountsWithin c.args.show.now.laid c.args.show.now.playing
 counts c = tells_yes _ c.counts_within.result c.if-not-counts_within.false c.counts_within.ensures
 
-within : (c : In_ok-check) → ShowWithin c.args.show
+within : (c : In_ok-check) → ShowWithin c.args.show.now
 within c = check_within _ (sym c.check.ensures ∙ c.in_ok-check.was)
 
-size : (c : In_ok-check) → length (file_of c.args.show c.args.note.now) ≡ length c.args.note.now + 16 * (c.args.show.laid + c.args.show.playing) + 20
+size : (c : In_ok-check) → length (file_of c.args.show.now c.args.note.now) ≡ length c.args.note.now + 16 * (c.args.show.now.laid + c.args.show.now.playing) + 20
 size c = shown_length _ _ (search (unmapped, rules)) (search (unmapped, rules)) (within c).counts
 
 pub returns-then-not-counts_within : goal.returns-then-not-counts_within

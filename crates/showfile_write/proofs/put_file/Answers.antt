@@ -13,12 +13,12 @@ use Rattle.showfile_write.proofs.put_file.Goals as goal
 
 pub returns : goal.returns
 returns c =
-    let eight : length c.args.show.layouts ≡ 8 = search (unmapped, rules) in
-    let sixteen : length c.args.show.sessions ≡ 16 = search (unmapped, rules) in
+    let eight : length c.args.show.now.layouts ≡ 8 = search (unmapped, rules) in
+    let sixteen : length c.args.show.now.sessions ≡ 16 = search (unmapped, rules) in
     let counts = c.requires.counts in
-    let laid : c.args.show.laid ≤ length c.args.show.layouts = omega arith in
-    let playing : c.args.show.playing ≤ length c.args.show.sessions = omega arith in
-    let size = shown_length c.args.show c.args.note.now eight sixteen counts in
+    let laid : c.args.show.now.laid ≤ length c.args.show.now.layouts = omega arith in
+    let playing : c.args.show.now.playing ≤ length c.args.show.now.sessions = omega arith in
+    let size = shown_length c.args.show.now c.args.note.now eight sixteen counts in
     record {
       value = omega arith;
       buffer_after = file_filed _ _ _ laid playing (omega arith) (rw c.copy_from_slice.ensures.after (part_over _ 0 _ c.args.note.now refl))
