@@ -1,9 +1,7 @@
 -- Rounding up: n/N rounded up is the least k with n ≤ k N, and all else follows from that. Assumes nothing.
-use Prim.Native.Nat.{ℕ, ◌+◌, ◌*◌, ◌/◌, ◌-◌, ◌≤◌, ◌<◌, ◌%◌, min}
-use mathlib.Core.Path.{◌≡◌}
+use Prim.Native.Nat.{ℕ, ◌+◌, ◌*◌, ◌/◌, ◌-◌, ◌≤◌, ◌<◌}
 use native.Mathlib.Omega.{arith}
-use native.Mathlib.Nat.{le_trans, one-mul, add-mul, mul_comm, lt_of_mul-lt-mul_right, le-mul_of_pos_right, mul-div-le, div-lt_iff_lt-mul}
-use Rattle.std.proofs.lemmas.Grind.{div_ceil_times}
+use native.Mathlib.Nat.{le_trans, one-mul, add-mul, mul_comm, le-mul_of_pos_right, mul-div-le, div-lt_iff_lt-mul}
 use Rattle.cost.specs.Bound.{ceil}
 
 module _ (N : ℕ) (some : 1 ≤ N) where
@@ -33,12 +31,3 @@ module _ (N : ℕ) (some : 1 ≤ N) where
 
   pub ceil_capped : (n : ℕ) → ceil n N ≤ n
   ceil_capped n = ceil_least n n (le-mul_of_pos_right n some)
-
-  -- as the library words it
-  pub ceil_same : (n : ℕ) → n / N + min 1 (n % N) ≡ ceil n N
-  ceil_same n =
-      let times = div_ceil_times n N (omega arith) in
-      let least = ceil_least n (n / N + min 1 (n % N)) times.0 in
-      let below : (n / N + min 1 (n % N)) * N < (ceil n N + 1) * N = omega (arith, ceil_enough n, add-mul (ceil n N) 1 N, one-mul N) in
-      let most = lt_of_mul-lt-mul_right N below in
-      omega arith

@@ -12,7 +12,9 @@ fn edges(cylinder: u32, n: u32) -> u64
     requires { 1 ≤ cylinder }
     ensures { result ≡ edges cylinder n }
 {
-    (n as u64).div_ceil(cylinder as u64)
+    let per = cylinder as u64;
+    // Not `div_ceil`: tried, it makes a decision on sixteen clips one tenth more instructions.
+    (n as u64 + per - 1) / per
 }
 
 // U(n) of a cost within its limits, which fits 64 bits for every count.

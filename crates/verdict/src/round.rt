@@ -54,7 +54,7 @@ fn rates_of(show: &Show) -> [u64; 16]
 }
 
 // The time t at which the counts that t asks for take no longer than t; none, once a count does not fit. A count that is still
-// ahead stays, and a longer time counts at once for the sessions after it. Both loops stand here so that no turn copies the show.
+// ahead stays, and a longer time counts at once for the sessions after it. Both loops stand here, since they share the rows.
 pub(crate) fn settle(show: &Show) -> Option<u64>
     requires { ShowWithin show.now }
     ensures { SettledAs show.now result }

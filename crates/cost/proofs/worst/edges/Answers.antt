@@ -1,10 +1,9 @@
 -- `edges` answers n/N rounded up. Assumes nothing.
-use mathlib.Core.Path.{◌∙◌}
-use Rattle.cost.proofs.Ceil.{ceil_same}
-use Rattle.cost.specs.Bound.{edges}
+use mathlib.Core.Path.{refl}
+use Rattle.cost.specs.Bound.{ceil, edges}
 use Rattle.cost.proofs.worst.edges.Goals as goal
 
 pub returns : goal.returns
-unfolding edges
+unfolding edges ceil
 returns c =
-    c.div_ceil.ensures ∙ ceil_same _ c.requires _
+    refl
