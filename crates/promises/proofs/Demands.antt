@@ -1,6 +1,7 @@
 -- The three demands, by citation. Assumes nothing.
 use mathlib.Core.Path.{sym, ◌∙◌}
 use Rattle.show.proofs.Checks.{tells_once}
+use Rattle.showfile_write.proofs.Records.{words_once, from_once}
 use Rattle.verdict.proofs.Once.{decision_once}
 use Rattle.trial.proofs.Once.{trial_once}
 use Rattle.run.proofs.Opening.{open_once}
@@ -63,6 +64,8 @@ demands =
             equation = λ meaning x y p q. p ∙ sym q;
             test = tells_once;
             place = place_once;
+            from_words = from_once;
+            words = words_once;
             decision = decision_once;
             trial = trial_once;
             opening = open_once;

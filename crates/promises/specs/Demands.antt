@@ -5,6 +5,7 @@ use Rattle.show.specs.declared.Show.{Show}
 use Rattle.show.specs.Limits.{Tells}
 use Rattle.parse.specs.Places.{PlaceIs}
 use Rattle.showfile.specs.declared.Written.{Written}
+use Rattle.showfile.specs.Rows.{words_of, bytes_of, Words}
 use Rattle.verdict.specs.declared.Decision.{Decision}
 use Rattle.trial.specs.declared.Trial.{Trial}
 use Rattle.verdict.specs.Answers.{DecisionIs}
@@ -89,6 +90,11 @@ pub record Once : Type 1 where
   pub test : (p : Type 0) (a b : Bool) → Tells a p → Tells b p → a ≡ b
   -- `place_in`
   pub place : (names word : List ℕ) (a b : ℕ) → PlaceIs names word a → PlaceIs names word b → a ≡ b
+  -- `Row::from_words`, `Row::words`, of a record in a show file
+  pub from_words :
+      {A : Type 0} (of : List ℕ → A) (w : List ℕ) (a b : A) → Words w → ((s : List ℕ) → w ≡ words_of s → a ≡ of s) →
+      ((s : List ℕ) → w ≡ words_of s → b ≡ of s) → a ≡ b
+  pub words : (v w : List ℕ) → Words v → Words w → bytes_of v ≡ bytes_of w → v ≡ w
   -- `decide`, `tried`, `open`, `why`
   pub decision : (s : Show) (d e : Decision) → DecisionIs s d → DecisionIs s e → d ≡ e
   pub trial : (s : Show) (m : List ℕ) (a b : Trial) → TrialIs s m a → TrialIs s m b → a ≡ b

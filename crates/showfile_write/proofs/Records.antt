@@ -1,7 +1,7 @@
 -- A layout, a session and a trailer, there and back. Assumes nothing.
 use Prim.Native.Nat.{ℕ, ◌+◌, ◌*◌, ◌≤◌, ◌<◌}
-use mathlib.Core.Path.{◌≡◌, sym, ap, ◌∙◌}
-use mathlib.Core.List.{List, ◌++◌, append_assoc, append-nil}
+use mathlib.Core.Path.{◌≡◌, refl, sym, ap, subst, ◌∙◌}
+use mathlib.Core.List.{List, [], ◌∷◌, ◌++◌, append_assoc, append-nil}
 use native.Mathlib.Omega.{arith}
 use lib.ListN.{length, drop, length-drop, drop_of_length-le}
 use lib.Seq.{drop-drop}
@@ -10,6 +10,7 @@ use Rattle.show.specs.declared.Session.{Session}
 use Rattle.show.specs.declared.Show.{Show}
 use Rattle.show.specs.Limits.{LayoutWithin, SessionWithin, DriveWithin, CountsWithin}
 use Rattle.showfile.specs.Bytes.{Bytes, word_of, half_of, word_bytes, half_bytes, four_bytes}
+use Rattle.showfile.specs.Rows.{words_of, bytes_of, Words}
 use Rattle.showfile.specs.File.{layout_of, layout_bytes, session_of, session_bytes, trailer_of, trailer_bytes, trailer_for}
 use Rattle.showfile_write.proofs.Words.{bytes_drop, word_there, half_there, word_back, half_back}
 
@@ -28,6 +29,28 @@ four_there :
 unfolding four_bytes word_bytes
 four_there p q r s t hp hq hr hs =
     record { one = word_there p _ hp; two = word_there q _ hq; three = word_there r _ hr; four = word_there s _ hs }
+
+-- the numbers of a record are read off their own bytes, ..
+words_there : (w : List ℕ) → Words w → words_of (bytes_of w) ≡ w
+words_there (p ∷ q ∷ r ∷ s ∷ []) k =
+    let words : Spells (four_bytes p q r s) p q r s =
+    subst (λ (t : List ℕ). Spells t p q r s) (append-nil (four_bytes p q r s))
+    (four_there p q r s [] (k.small 0) (k.small 1) (k.small 2) (k.small 3)) in
+    rw (words.one, words.two, words.three, words.four) refl
+words_there [] k = absurd (omega (arith, k.four))
+words_there (p ∷ []) k = absurd (omega (arith, k.four))
+words_there (p ∷ q ∷ []) k = absurd (omega (arith, k.four))
+words_there (p ∷ q ∷ r ∷ []) k = absurd (omega (arith, k.four))
+words_there (p ∷ q ∷ r ∷ s ∷ t ∷ l) k = absurd (omega (arith, k.four))
+
+-- .. so `Row::words` and `Row::from_words` have one answer each.
+pub words_once : (v w : List ℕ) → Words v → Words w → bytes_of v ≡ bytes_of w → v ≡ w
+words_once v w j k e = sym (words_there v j) ∙ ap words_of e ∙ words_there w k
+
+pub from_once :
+    {A : Type 0} (of : List ℕ → A) (w : List ℕ) (a b : A) → Words w → ((s : List ℕ) → w ≡ words_of s → a ≡ of s) →
+    ((s : List ℕ) → w ≡ words_of s → b ≡ of s) → a ≡ b
+from_once of w a b k f g = let e = sym (words_there w k) in f (bytes_of w) e ∙ sym (g (bytes_of w) e)
 
 pub layout_there : (y : Layout) (r : List ℕ) → LayoutWithin y → layout_of (layout_bytes y ++ r) ≡ y
 unfolding layout_of layout_bytes
