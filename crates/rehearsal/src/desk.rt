@@ -76,11 +76,7 @@ enum Judged {
     Good,
 }
 
-// `idle`: there is no line.
-pub(crate) fn line(rt: &impl Print, bytes: &[u8], idle: bool, desk: Desk) -> Desk {
-    if idle {
-        return desk;
-    }
+pub(crate) fn line(rt: &impl Print, bytes: &[u8], desk: Desk) -> Desk {
     let has = desk.has;
     let asked = asked_of(bytes);
     let mut next = desk;

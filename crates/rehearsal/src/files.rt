@@ -1,8 +1,12 @@
 // Files that are read and written again, and shows that are written and read again, with every byte of the buffer that is lent.
 ghost use Rattle.std.specs.Prelude.{◌≤◌, length};
 
-use crate::answers::{CHANGED, NOTE, end, tell_bytes, tell_refused, tell_show, told_of, unless, unlike};
-use crate::forms::{CONTENTS, COPIED, DIFFERENT, LENGTH, REREAD, SPACE, UNWRITTEN, WROTE, at_most, either, tell};
+use crate::answers::{
+    CHANGED, NOTE, end, tell_bytes, tell_refused, tell_show, told_of, unless, unlike,
+};
+use crate::forms::{
+    CONTENTS, COPIED, DIFFERENT, LENGTH, REREAD, SPACE, UNWRITTEN, WROTE, at_most, either, tell,
+};
 use crate::given::{BYTES, bytes_of};
 use parse::same;
 use show::Show;

@@ -1,8 +1,14 @@
 // Questions, which change nothing: what is told of their answers.
-use crate::answers::{BESIDE, Said, answer_of, end, refused_as, said_as, tell_answer, tell_refused, told_of, unless, zeros_from};
+use crate::answers::{
+    BESIDE, Said, answer_of, end, refused_as, said_as, tell_answer, tell_refused, told_of, unless,
+    zeros_from,
+};
 use crate::asked::{Asked, Word};
 use crate::files::{tell_file, tell_written};
-use crate::forms::{ACCEPTED, BEYOND, BUFFER, FAILS, HOLDS, NONE, OVERLOAD, SPACE, STATE, VALUE, put_lists, put_said, tell};
+use crate::forms::{
+    ACCEPTED, BEYOND, BUFFER, FAILS, HOLDS, NONE, OVERLOAD, SPACE, STATE, VALUE, put_lists,
+    put_said, tell,
+};
 use crate::given::{Taking, counts_of, low, taking_of};
 use crate::output::said;
 use crate::texts::{Call, tell_text};

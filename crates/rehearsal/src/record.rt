@@ -1,7 +1,9 @@
 // The line that tells the whole run record.
 ghost use Rattle.std.specs.Prelude.{◌<◌};
 
-use crate::forms::{CELLS, CYCLE, NAMES, NEWLINE, NO_CELLS, NOTHING, at_most, either, put_lists, put_said};
+use crate::forms::{
+    CELLS, CYCLE, NAMES, NEWLINE, NO_CELLS, NOTHING, at_most, either, put_lists, put_said,
+};
 use crate::output::said;
 use run::Run;
 
