@@ -9,7 +9,6 @@ mod calls;
 mod desk;
 mod fields;
 mod files;
-mod forms;
 mod given;
 mod output;
 mod questions;
