@@ -29,33 +29,6 @@ impl From<Result<(), Refusal>> for Answer {
     }
 }
 
-impl From<Result<u64, Refusal>> for Answer {
-    fn from(value: Result<u64, Refusal>) -> Answer {
-        match value {
-            Ok(n) => Answer::Value(n),
-            Err(why) => Answer::Refused(why),
-        }
-    }
-}
-
-impl From<Result<i64, Refusal>> for Answer {
-    fn from(time: Result<i64, Refusal>) -> Answer {
-        match time {
-            Ok(t) => Answer::Time(t),
-            Err(why) => Answer::Refused(why),
-        }
-    }
-}
-
-impl From<Result<Option<Reason>, Refusal>> for Answer {
-    fn from(reason: Result<Option<Reason>, Refusal>) -> Answer {
-        match reason {
-            Ok(why) => Answer::Reason(why),
-            Err(why) => Answer::Refused(why),
-        }
-    }
-}
-
 impl From<Choice> for Answer {
     fn from(choice: Choice) -> Answer {
         match choice {

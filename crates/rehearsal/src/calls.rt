@@ -35,7 +35,7 @@ impl From<Chosen> for Called {
 impl From<Spared> for Called {
     fn from(spared: Spared) -> Called {
         Called {
-            answer: Answer::from(spared.spare),
+            answer: spared.spare.map_or_else(Answer::Refused, Answer::Time),
             run: spared.run,
         }
     }

@@ -17,11 +17,17 @@ use state::State;
 pub(crate) fn about_show(rt: &impl Print, line: &[u8], about: About, show: Show) -> bool {
     let operand = part(line, b' ', 1);
     match about {
-        About::Why => tell_short(rt, Answer::from(reason::why(show))),
-        About::Load => tell_short(rt, Answer::from(reason::load(show))),
+        About::Why => tell_short(
+            rt,
+            reason::why(show).map_or_else(Answer::Refused, Answer::Reason),
+        ),
+        About::Load => tell_short(
+            rt,
+            reason::load(show).map_or_else(Answer::Refused, Answer::Value),
+        ),
         About::Worst { session, blocks } => tell_short(
             rt,
-            Answer::from(worst_time(show, session, blocks)),
+            worst_time(show, session, blocks).map_or_else(Answer::Refused, Answer::Value),
         ),
         About::Decide => tell_decision(rt, show),
         About::Try => tell_trial(rt, show, counts_of(operand).unwrap_or([0; 16])),
