@@ -65,8 +65,12 @@ pub(crate) fn told_of(why: Refusal) -> [u64; 2] {
     [told.number as u64, told.place as u64]
 }
 
-// The answer, and the end of its line.
-pub(crate) fn tell_answer(rt: &impl Print, answer: Answer, faults: Faults) -> bool {
+pub(crate) fn tell_answer(rt: &impl Print, answer: Answer) -> bool {
+    tell_faulty(rt, answer, Faults::default())
+}
+
+// The answer, what is not as it must be, and the end of the line.
+pub(crate) fn tell_faulty(rt: &impl Print, answer: Answer, faults: Faults) -> bool {
     let mut page = Page::<128>::new();
     answer.put(&mut page);
     faults.put(&mut page);

@@ -1,5 +1,5 @@
 // The desk that a script is rehearsed at: what there is so far, and what each line makes of it.
-use crate::answers::{Answer, Faults, end, tell_answer};
+use crate::answers::{Answer, tell_answer};
 use crate::asked::{About, Given, Word, asked_of};
 use crate::calls::{answered, opened};
 use crate::fields::poke;
@@ -152,12 +152,11 @@ fn step_in(word: Word, line: &[u8], case: Case) -> Option<Step> {
 
 fn tell_reply(rt: &impl Print, line: &[u8], reply: Reply) -> bool {
     match reply {
-        Reply::Plain => end(rt, Faults::default()),
-        Reply::Called(answer, None) => tell_answer(rt, answer, Faults::default()),
-        Reply::Called(answer, Some(run)) => tell_answer(rt, answer, Faults::default())
-            && tell_record(rt, run),
+        Reply::Plain => say(rt, b"\n"),
+        Reply::Called(answer, None) => tell_answer(rt, answer),
+        Reply::Called(answer, Some(run)) => tell_answer(rt, answer) && tell_record(rt, run),
         Reply::About(about, Ok(show)) => about_show(rt, line, about, show),
-        Reply::About(_, Err(why)) => tell_answer(rt, Answer::Refused(why), Faults::default()),
+        Reply::About(_, Err(why)) => tell_answer(rt, Answer::Refused(why)),
         Reply::Given(given) => about_given(rt, line, given),
     }
 }

@@ -1,7 +1,5 @@
 // Files that are read and written again, and shows that are written and read again, with every byte of the buffer that is lent.
-ghost use Rattle.std.specs.Prelude.{◌≤◌, length};
-
-use crate::answers::{Answer, Faults, alike, end, tell_answer, tell_show, told_of};
+use crate::answers::{Answer, Faults, alike, tell_faulty, tell_show, told_of};
 use crate::given::{BYTES, Bytes};
 use crate::output::Page;
 use show::Show;
@@ -46,7 +44,7 @@ pub(crate) fn tell_file(rt: &impl Print, hex: &[u8]) -> bool {
         Ok(()) => tell_show(rt, b" -> read ", reading.show)
             && tell_note(rt, file)
             && tell_copies(rt, file),
-        Err(why) => tell_answer(rt, Answer::Refused(why), unread_faults(why, file)),
+        Err(why) => tell_faulty(rt, Answer::Refused(why), unread_faults(why, file)),
     }
 }
 

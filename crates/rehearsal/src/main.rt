@@ -53,21 +53,28 @@ fn main(rt: HostRuntime) {
 // A proved loop has to end, and nothing says that a script does: so the turns are counted, to a number that no script uses up.
 fn rehearse<R: Read>(rt: &(impl Print + Eprint), input: &mut R, room: &mut [u8; ROOM]) {
     let mut desk = Desk::new();
-    let mut held = Span { from: 0, to: 0 };
-    let mut rest = false;
+    let mut turn = first();
     for _ in 0..u64::MAX {
-        let turn = next_line(rt, input, room, held, rest);
+        turn = next_line(rt, input, room, turn.held, turn.rest);
         if let Some(Span { from, to }) = turn.line {
             desk = line(rt, &room[from..to], desk);
         }
         if desk.lost || !turn.more {
             break;
         }
-        held = turn.held;
-        rest = turn.rest;
     }
     if desk.lost {
         complain(rt, "rehearsal: the answers could not be written\n");
+    }
+}
+
+// Nothing is held yet.
+fn first() -> Turn {
+    Turn {
+        line: None,
+        held: Span { from: 0, to: 0 },
+        rest: false,
+        more: true,
     }
 }
 

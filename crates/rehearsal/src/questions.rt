@@ -1,5 +1,5 @@
 // Questions, which change nothing: what is told of their answers.
-use crate::answers::{Answer, Faults, tell_answer, zeros_from};
+use crate::answers::{Answer, Faults, tell_answer, tell_faulty, zeros_from};
 use crate::asked::{About, Given};
 use crate::files::{tell_file, tell_written};
 use crate::given::{counts_of, low, number_from_end};
@@ -17,15 +17,15 @@ use state::State;
 pub(crate) fn about_show(rt: &impl Print, line: &[u8], about: About, show: Show) -> bool {
     let operand = part(line, b' ', 1);
     match about {
-        About::Why => tell_short(
+        About::Why => tell_answer(
             rt,
             reason::why(show).map_or_else(Answer::Refused, Answer::Reason),
         ),
-        About::Load => tell_short(
+        About::Load => tell_answer(
             rt,
             reason::load(show).map_or_else(Answer::Refused, Answer::Value),
         ),
-        About::Worst { session, blocks } => tell_short(
+        About::Worst { session, blocks } => tell_answer(
             rt,
             worst_time(show, session, blocks).map_or_else(Answer::Refused, Answer::Value),
         ),
@@ -33,10 +33,6 @@ pub(crate) fn about_show(rt: &impl Print, line: &[u8], about: About, show: Show)
         About::Try => tell_trial(rt, show, counts_of(operand).unwrap_or([0; 16])),
         About::Write { room } => tell_written(rt, show, operand, room),
     }
-}
-
-fn tell_short(rt: &impl Print, answer: Answer) -> bool {
-    tell_answer(rt, answer, Faults::default())
 }
 
 fn tell_decision(rt: &impl Print, show: Show) -> bool {
@@ -65,7 +61,7 @@ fn tell_trial(rt: &impl Print, show: Show, counts: [u32; 16]) -> bool {
 // Refused, all else is zero.
 fn tell_nothing(rt: &impl Print, why: Refusal, round: u64, lists: &[[u64; 16]]) -> bool {
     let beside = round != 0 || !zeros_from(0, lists);
-    tell_answer(
+    tell_faulty(
         rt,
         Answer::Refused(why),
         Faults {

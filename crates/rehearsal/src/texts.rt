@@ -1,6 +1,4 @@
 // The calculator's text of a file, and why it is refused, as one line: each newline is written \n.
-ghost use Rattle.std.specs.Prelude.{◌≤◌, length};
-
 use crate::answers::{Faults, end};
 use crate::files::{fill, filled};
 use crate::given::Bytes;
