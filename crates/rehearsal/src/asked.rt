@@ -163,15 +163,9 @@ fn poke_of(line: &[u8]) -> Option<Word> {
 
 // The word, where the line is of its form, which has a letter for each word of the line.
 fn formed(line: &[u8], kinds: &[u8], word: Word) -> Option<Word> {
-    if parts(line, b' ') != kinds.len() {
-        return None;
-    }
-    for (k, &kind) in kinds.iter().enumerate() {
-        if !is_kind(part(line, b' ', k), kind) {
-            return None;
-        }
-    }
-    Some(word)
+    let good = |(k, kind): (usize, &u8)| is_kind(part(line, b' ', k), *kind);
+    let all = parts(line, b' ') == kinds.len() && kinds.iter().enumerate().all(good);
+    all.then_some(word)
 }
 
 // `.` any word, `a` a name, `f` the policy, `c` counts, `h` hex, `m` a show in memory, `n` a note; others are numbers: `b` yes or no,

@@ -116,7 +116,7 @@ fn plain(stage: Stage) -> Step {
     }
 }
 
-// Each word takes what it needs from the case.
+// Each word takes what it needs from the case. Where a case begins and ends is said above.
 fn step_in(word: Word, line: &[u8], case: Case) -> Option<Step> {
     let operand = part(line, b' ', 1);
     let mut next = case;

@@ -1,4 +1,6 @@
 // What the words of a line spell: numbers, bytes, a show in memory, counts.
+ghost use Rattle.std.specs.Prelude.{◌≤◌};
+
 use parse::{part, parts};
 use parse_numbers::{decimal, unhex};
 use show::{Drive, Layout, Session, Show};
@@ -99,16 +101,20 @@ pub(crate) fn is_hex(text: &[u8]) -> bool {
 pub(crate) struct Bytes {
     room: [u8; BYTES],
     len: usize,
+    ghost inside: { len ≤ 4096 },
 }
 
 impl Bytes {
     pub(crate) fn of(text: &[u8]) -> Bytes {
         let mut room = [0u8; BYTES];
-        let len = unhex(text, &mut room).unwrap_or(0) as usize;
-        Bytes { room, len }
+        let len = unhex(text, &mut room).map_or(0, |n| n as usize);
+        Bytes {
+            room,
+            len: len.min(BYTES),
+        }
     }
 
     pub(crate) fn as_slice(&self) -> &[u8] {
-        &self.room[..self.len.min(BYTES)]
+        &self.room[..self.len]
     }
 }

@@ -10,7 +10,8 @@ pub(crate) fn complain(rt: &impl Eprint, line: &str) {
     let _ = rt.eprint(line);
 }
 
-// N bytes, and where what is put on them ends. What no longer fits is not put.
+// N bytes, and where what is put on them ends. What no longer fits is not put. Forms with # are those of the library text_forms: with `Display`
+// and `write!` in their place, each text would have a `Result` to hand on, of a write to memory that does not fail.
 #[derive(Clone, Copy)]
 pub(crate) struct Page<const N: usize> {
     bytes: [u8; N],
@@ -52,6 +53,7 @@ impl<const N: usize> Page<N> {
         }
     }
 
+    // Cut to the page: that the end lies on it is so by the contract of `put_form`, and would take a lemma here.
     pub(crate) fn tell(&self, rt: &impl Print) -> bool {
         say(rt, &self.bytes[..self.end.min(N)])
     }

@@ -2,10 +2,18 @@
 use crate::output::Page;
 use run::Run;
 
-// The five lists of a run: counts, P, G, C, order.
-const NAMES: [u8; 5] = *b"MPGCO";
+// One of the five lists of a run, and its letter.
+#[derive(Clone, Copy)]
+struct List {
+    name: u8,
+    numbers: [u64; 16],
+}
 
-type Lists = [[u64; 16]; 5];
+impl List {
+    fn new(name: u8, numbers: [u64; 16]) -> List {
+        List { name, numbers }
+    }
+}
 
 // A line's page: the longest record has fewer bytes.
 type Line = Page<4096>;
@@ -20,13 +28,13 @@ pub(crate) fn tell_record(rt: &impl Print, run: Run) -> bool {
     page.tell(rt)
 }
 
-fn lists_of(run: Run) -> Lists {
+fn lists_of(run: Run) -> [List; 5] {
     [
-        run.counts.map(u64::from),
-        run.states.map(|s| s.put),
-        run.states.map(|s| s.taken),
-        run.states.map(|s| s.clock),
-        run.order.map(u64::from),
+        List::new(b'M', run.counts.map(u64::from)),
+        List::new(b'P', run.states.map(|s| s.put)),
+        List::new(b'G', run.states.map(|s| s.taken)),
+        List::new(b'C', run.states.map(|s| s.clock)),
+        List::new(b'O', run.order.map(u64::from)),
     ]
 }
 
@@ -41,22 +49,22 @@ fn put_cycle(page: &mut Line, run: Run) {
     }
 }
 
-fn put_used(page: &mut Line, used: usize, lists: &Lists) {
-    for (&name, list) in NAMES.iter().zip(lists) {
-        page.put(&[b' ', name, b'='], &[]);
-        page.put_list(&list[..used.min(16)]);
+fn put_used(page: &mut Line, used: usize, lists: &[List]) {
+    for list in lists {
+        page.put(&[b' ', list.name, b'='], &[]);
+        page.put_list(&list.numbers[..used.min(16)]);
     }
 }
 
 // The unused places that are not zero.
-fn put_unused(page: &mut Line, used: usize, lists: &Lists) {
+fn put_unused(page: &mut Line, used: usize, lists: &[List]) {
     let mut none = true;
     page.put(b" X=", &[]);
-    for (&name, list) in NAMES.iter().zip(lists) {
-        for (i, &value) in list.iter().enumerate().skip(used) {
+    for list in lists {
+        for (i, &value) in list.numbers.iter().enumerate().skip(used) {
             if value != 0 {
                 page.put_if(!none, b",");
-                page.put(&[name, b'#', b':', b'#'], &[i as u64, value]);
+                page.put(&[list.name, b'#', b':', b'#'], &[i as u64, value]);
                 none = false;
             }
         }

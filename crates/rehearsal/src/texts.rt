@@ -3,7 +3,6 @@ use crate::answers::{Faults, end};
 use crate::files::{fill, filled};
 use crate::given::Bytes;
 use crate::output::say;
-use parse::{part, parts};
 use show::refusal::Refusal;
 use showfile::Written;
 
@@ -58,13 +57,9 @@ fn asked_in<F: Fn(&[u8], &mut [u8]) -> Written>(ask: &F, file: &[u8], room: usiz
 }
 
 fn tell_lines(rt: &impl Print, text: &[u8]) -> bool {
-    for k in 0..parts(text, b'\n') {
-        let told = if k == 0 {
-            say(rt, b" -> ")
-        } else {
-            say(rt, b"\\n")
-        };
-        if !told || !say(rt, part(text, b'\n', k)) {
+    for (k, line) in text.split(|&b| b == b'\n').enumerate() {
+        let before = if k == 0 { " -> " } else { "\\n" };
+        if !say(rt, before.as_bytes()) || !say(rt, line) {
             return false;
         }
     }
