@@ -4,6 +4,7 @@ use reason::Reason;
 use scheduler::Choice;
 use show::Show;
 use show::refusal::Refusal;
+use std::io;
 use workahead::magnitude;
 
 // ---- short answers
@@ -65,12 +66,12 @@ pub(crate) fn told_of(why: Refusal) -> [u64; 2] {
     [told.number as u64, told.place as u64]
 }
 
-pub(crate) fn tell_answer(rt: &impl Print, answer: Answer) -> bool {
+pub(crate) fn tell_answer(rt: &impl Print, answer: Answer) -> io::Result<()> {
     tell_faulty(rt, answer, Faults::default())
 }
 
 // The answer, what is not as it must be, and the end of the line.
-pub(crate) fn tell_faulty(rt: &impl Print, answer: Answer, faults: Faults) -> bool {
+pub(crate) fn tell_faulty(rt: &impl Print, answer: Answer, faults: Faults) -> io::Result<()> {
     let mut page = Page::<128>::new();
     answer.put(&mut page);
     faults.put(&mut page);
@@ -105,7 +106,7 @@ impl Faults {
 }
 
 // The end of a line that has no more to say than what is not as it must be.
-pub(crate) fn end(rt: &impl Print, faults: Faults) -> bool {
+pub(crate) fn end(rt: &impl Print, faults: Faults) -> io::Result<()> {
     let mut page = Page::<64>::new();
     faults.put(&mut page);
     page.tell(rt)
@@ -129,7 +130,7 @@ pub(crate) fn zeros_from(n: usize, lists: &[[u64; 16]]) -> bool {
 // ---- a show, as a script gives it
 
 // After a form.
-pub(crate) fn tell_show(rt: &impl Print, form: &[u8], show: Show) -> bool {
+pub(crate) fn tell_show(rt: &impl Print, form: &[u8], show: Show) -> io::Result<()> {
     let mut page = Page::<2048>::new();
     let (laid, playing) = (show.laid as u64, show.playing as u64);
     page.put(form, &[]);

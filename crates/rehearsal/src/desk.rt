@@ -12,6 +12,7 @@ use parse::part;
 use run::Run;
 use show::Show;
 use show::refusal::Refusal;
+use std::io;
 
 // A longer line is malformed.
 const LINE_MOST: usize = 65_535;
@@ -32,11 +33,10 @@ enum Stage {
     Open(Case),
 }
 
-// `lines`: the lines so far. `lost`: an answer could not be written.
+// `lines`: the lines so far.
 #[derive(Clone, Copy)]
 pub(crate) struct Desk {
     lines: u64,
-    pub lost: bool,
     stage: Stage,
 }
 
@@ -44,32 +44,33 @@ impl Desk {
     pub(crate) fn new() -> Desk {
         Desk {
             lines: 0,
-            lost: false,
             stage: Stage::Between,
         }
     }
 }
 
-pub(crate) fn line(rt: &impl Print, bytes: &[u8], desk: Desk) -> Desk {
+// The desk after a line.
+pub(crate) fn line(rt: &impl Print, bytes: &[u8], desk: Desk) -> io::Result<Desk> {
     let lines = desk.lines.wrapping_add(1);
     if matches!(desk.stage, Stage::Over) && !matches!(part(bytes, b' ', 0), b"case") {
-        return Desk { lines, ..desk };
+        return Ok(Desk { lines, ..desk });
     }
     let Some(step) = step_of(bytes, desk.stage) else {
-        return Desk {
+        tell_error(rt, lines)?;
+        return Ok(Desk {
             lines,
-            lost: !tell_error(rt, lines),
             stage: Stage::Over,
-        };
+        });
     };
-    Desk {
+    say(rt, bytes)?;
+    tell_reply(rt, bytes, step.reply)?;
+    Ok(Desk {
         lines,
-        lost: !(say(rt, bytes) && tell_reply(rt, bytes, step.reply)),
         stage: step.stage,
-    }
+    })
 }
 
-fn tell_error(rt: &impl Print, lines: u64) -> bool {
+fn tell_error(rt: &impl Print, lines: u64) -> io::Result<()> {
     let mut page = Page::<64>::new();
     page.put(b"error #\n", &[lines]);
     page.tell(rt)
@@ -150,11 +151,14 @@ fn step_in(word: Word, line: &[u8], case: Case) -> Option<Step> {
 
 // ---- what is told of it
 
-fn tell_reply(rt: &impl Print, line: &[u8], reply: Reply) -> bool {
+fn tell_reply(rt: &impl Print, line: &[u8], reply: Reply) -> io::Result<()> {
     match reply {
         Reply::Plain => say(rt, b"\n"),
         Reply::Called(answer, None) => tell_answer(rt, answer),
-        Reply::Called(answer, Some(run)) => tell_answer(rt, answer) && tell_record(rt, run),
+        Reply::Called(answer, Some(run)) => {
+            tell_answer(rt, answer)?;
+            tell_record(rt, run)
+        }
         Reply::About(about, Ok(show)) => about_show(rt, line, about, show),
         Reply::About(_, Err(why)) => tell_answer(rt, Answer::Refused(why)),
         Reply::Given(given) => about_given(rt, line, given),

@@ -6,6 +6,7 @@ use show::Show;
 use show::refusal::Refusal;
 use showfile_copy::{copy, reread};
 use showfile_write::write;
+use std::io;
 
 // A buffer in hex, with what stands around it.
 type Wide = Page<{ WIDE }>;
@@ -36,19 +37,19 @@ fn before(i: usize) -> u8 {
 
 // ---- a file
 
-pub(crate) fn tell_file(rt: &impl Print, hex: &[u8]) -> bool {
+pub(crate) fn tell_file(rt: &impl Print, hex: &[u8]) -> io::Result<()> {
     let bytes = Bytes::of(hex);
     let file = bytes.as_slice();
     let reading = showfile::read(file);
-    match reading.check {
-        Ok(()) => tell_show(rt, b" -> read ", reading.show)
-            && tell_note(rt, file)
-            && tell_copies(rt, file),
-        Err(why) => tell_faulty(rt, Answer::Refused(why), unread_faults(why, file)),
+    if let Err(why) = reading.check {
+        return tell_faulty(rt, Answer::Refused(why), unread_faults(why, file));
     }
+    tell_show(rt, b" -> read ", reading.show)?;
+    tell_note(rt, file)?;
+    tell_copies(rt, file)
 }
 
-fn tell_note(rt: &impl Print, file: &[u8]) -> bool {
+fn tell_note(rt: &impl Print, file: &[u8]) -> io::Result<()> {
     let mut page = Wide::new();
     page.put(b" ", &[]);
     page.put_bytes(showfile::note(file));
@@ -67,7 +68,7 @@ fn unread_faults(why: Refusal, file: &[u8]) -> Faults {
 }
 
 // The file written again into a buffer of its length, and into one that is a byte shorter: this must be refused, and change nothing.
-fn tell_copies(rt: &impl Print, file: &[u8]) -> bool {
+fn tell_copies(rt: &impl Print, file: &[u8]) -> io::Result<()> {
     let whole = copied(file, file.len());
     let short = copied(file, file.len().saturating_sub(1));
     let [number, place] = short.check.err().map_or([0, 0], told_of);
@@ -111,22 +112,23 @@ fn copied_in(file: &[u8], buffer: &mut [u8]) -> Copying {
 
 // ---- a show in memory
 
-pub(crate) fn tell_written(rt: &impl Print, show: Show, hex: &[u8], room: usize) -> bool {
+pub(crate) fn tell_written(rt: &impl Print, show: Show, hex: &[u8], room: usize) -> io::Result<()> {
     let note = Bytes::of(hex);
     let mut buffer = [0u8; BYTES];
     tell_noted(rt, show, note.as_slice(), &mut buffer[..room.min(BYTES)])
 }
 
-fn tell_noted(rt: &impl Print, show: Show, note: &[u8], buffer: &mut [u8]) -> bool {
+fn tell_noted(rt: &impl Print, show: Show, note: &[u8], buffer: &mut [u8]) -> io::Result<()> {
     fill(buffer);
     let wrote = write(show, note, buffer);
-    match wrote.check {
-        Ok(()) => tell_wrote(rt, wrote.len, buffer) && tell_again(rt, show, note, buffer),
-        Err(why) => tell_unwritten(rt, why, show, note, buffer),
+    if let Err(why) = wrote.check {
+        return tell_unwritten(rt, why, show, note, buffer);
     }
+    tell_wrote(rt, wrote.len, buffer)?;
+    tell_again(rt, show, note, buffer)
 }
 
-fn tell_wrote(rt: &impl Print, len: usize, buffer: &[u8]) -> bool {
+fn tell_wrote(rt: &impl Print, len: usize, buffer: &[u8]) -> io::Result<()> {
     let mut page = Wide::new();
     page.put(b" -> wrote # ", &[len as u64]);
     page.put_bytes(buffer);
@@ -140,7 +142,7 @@ fn tell_unwritten(
     show: Show,
     note: &[u8],
     buffer: &mut [u8],
-) -> bool {
+) -> io::Result<()> {
     let second = reread(show, note, buffer);
     let faults = Faults {
         unlike: !alike(why, second.check),
@@ -155,10 +157,11 @@ fn tell_unwritten(
 }
 
 // The show written into a fresh buffer and read again; zeros where that is refused.
-fn tell_again(rt: &impl Print, show: Show, note: &[u8], buffer: &mut [u8]) -> bool {
+fn tell_again(rt: &impl Print, show: Show, note: &[u8], buffer: &mut [u8]) -> io::Result<()> {
     fill(buffer);
     let reading = reread(show, note, buffer);
     let mut page = Page::<64>::new();
     page.put(b" #\n", &[reading.note as u64]);
-    tell_show(rt, b" reread ", reading.show) && page.tell(rt)
+    tell_show(rt, b" reread ", reading.show)?;
+    page.tell(rt)
 }

@@ -22,6 +22,7 @@ use crate::desk::{Desk, line};
 use crate::output::complain;
 use input::read_at;
 use parse::find;
+use std::io;
 use std::io::Read;
 
 // The longest line and its newline.
@@ -47,25 +48,29 @@ struct Turn {
 
 fn main(rt: HostRuntime) {
     let mut room = [0u8; ROOM];
-    rehearse(&rt, &mut rt.stdin(), &mut room);
+    if rehearse(&rt, &mut rt.stdin(), &mut room).is_err() {
+        complain(&rt, "rehearsal: the answers could not be written\n");
+    }
 }
 
 // A proved loop has to end, and nothing says that a script does: so the turns are counted, to a number that no script uses up.
-fn rehearse<R: Read>(rt: &(impl Print + Eprint), input: &mut R, room: &mut [u8; ROOM]) {
+fn rehearse<R: Read>(
+    rt: &(impl Print + Eprint),
+    input: &mut R,
+    room: &mut [u8; ROOM],
+) -> io::Result<()> {
     let mut desk = Desk::new();
     let mut turn = first();
     for _ in 0..u64::MAX {
         turn = next_line(rt, input, room, turn.held, turn.rest);
         if let Some(Span { from, to }) = turn.line {
-            desk = line(rt, &room[from..to], desk);
+            desk = line(rt, &room[from..to], desk)?;
         }
-        if desk.lost || !turn.more {
+        if !turn.more {
             break;
         }
     }
-    if desk.lost {
-        complain(rt, "rehearsal: the answers could not be written\n");
-    }
+    Ok(())
 }
 
 // Nothing is held yet.

@@ -1,9 +1,10 @@
-// What is written: a page is put together, and told. A call that writes answers false where something could not be written.
+// What is written: a page is put together, and told. An `Err`: something could not be written.
+use std::io;
 use text_forms::hex::put_hex;
 use text_forms::put_form;
 
-pub(crate) fn say(rt: &impl Print, bytes: &[u8]) -> bool {
-    rt.write_all(bytes).is_ok()
+pub(crate) fn say(rt: &impl Print, bytes: &[u8]) -> io::Result<()> {
+    rt.write_all(bytes)
 }
 
 pub(crate) fn complain(rt: &impl Eprint, line: &str) {
@@ -54,7 +55,7 @@ impl<const N: usize> Page<N> {
     }
 
     // Cut to the page: that the end lies on it is so by the contract of `put_form`, and would take a lemma here.
-    pub(crate) fn tell(&self, rt: &impl Print) -> bool {
+    pub(crate) fn tell(&self, rt: &impl Print) -> io::Result<()> {
         say(rt, &self.bytes[..self.end.min(N)])
     }
 }

@@ -11,10 +11,11 @@ use player::Drawn;
 use show::refusal::Refusal;
 use show::{Session, Show};
 use state::State;
+use std::io;
 
 // ---- about the show in memory
 
-pub(crate) fn about_show(rt: &impl Print, line: &[u8], about: About, show: Show) -> bool {
+pub(crate) fn about_show(rt: &impl Print, line: &[u8], about: About, show: Show) -> io::Result<()> {
     let operand = part(line, b' ', 1);
     match about {
         About::Why => tell_answer(
@@ -35,7 +36,7 @@ pub(crate) fn about_show(rt: &impl Print, line: &[u8], about: About, show: Show)
     }
 }
 
-fn tell_decision(rt: &impl Print, show: Show) -> bool {
+fn tell_decision(rt: &impl Print, show: Show) -> io::Result<()> {
     let d = verdict::decide(show);
     let counts = d.counts.map(u64::from);
     let times = d.times;
@@ -47,7 +48,7 @@ fn tell_decision(rt: &impl Print, show: Show) -> bool {
 }
 
 // Counts that are not given are zeros.
-fn tell_trial(rt: &impl Print, show: Show, counts: [u32; 16]) -> bool {
+fn tell_trial(rt: &impl Print, show: Show, counts: [u32; 16]) -> io::Result<()> {
     let t = trial::tried(show, counts);
     let times = t.times;
     let lists = [times];
@@ -59,7 +60,7 @@ fn tell_trial(rt: &impl Print, show: Show, counts: [u32; 16]) -> bool {
 }
 
 // Refused, all else is zero.
-fn tell_nothing(rt: &impl Print, why: Refusal, round: u64, lists: &[[u64; 16]]) -> bool {
+fn tell_nothing(rt: &impl Print, why: Refusal, round: u64, lists: &[[u64; 16]]) -> io::Result<()> {
     let beside = round != 0 || !zeros_from(0, lists);
     tell_faulty(
         rt,
@@ -72,7 +73,13 @@ fn tell_nothing(rt: &impl Print, why: Refusal, round: u64, lists: &[[u64; 16]]) 
 }
 
 // The places that are used; the others are zeros.
-fn tell_lists(rt: &impl Print, form: &[u8], round: u64, lists: &[[u64; 16]], used: usize) -> bool {
+fn tell_lists(
+    rt: &impl Print,
+    form: &[u8],
+    round: u64,
+    lists: &[[u64; 16]],
+    used: usize,
+) -> io::Result<()> {
     let mut page = Page::<1024>::new();
     page.put(form, &[round]);
     for list in lists {
@@ -89,7 +96,7 @@ fn tell_lists(rt: &impl Print, form: &[u8], round: u64, lists: &[[u64; 16]], use
 
 // ---- about what a line brings, with no show in memory
 
-pub(crate) fn about_given(rt: &impl Print, line: &[u8], given: Given) -> bool {
+pub(crate) fn about_given(rt: &impl Print, line: &[u8], given: Given) -> io::Result<()> {
     let operand = part(line, b' ', 1);
     match given {
         Given::File => tell_file(rt, operand),
@@ -120,7 +127,7 @@ fn number(line: &[u8], back: usize) -> u64 {
     number_from_end(line, back).unwrap_or(0)
 }
 
-fn tell_take(rt: &impl Print, drawn: Drawn) -> bool {
+fn tell_take(rt: &impl Print, drawn: Drawn) -> io::Result<()> {
     let mut page = Page::<128>::new();
     let after = drawn.state;
     Answer::from(drawn.check).put(&mut page);

@@ -1,6 +1,7 @@
 // The line that tells the whole run record.
 use crate::output::Page;
 use run::Run;
+use std::io;
 
 // One of the five lists of a run, and its letter.
 #[derive(Clone, Copy)]
@@ -18,7 +19,7 @@ impl List {
 // A line's page: the longest record has fewer bytes.
 type Line = Page<4096>;
 
-pub(crate) fn tell_record(rt: &impl Print, run: Run) -> bool {
+pub(crate) fn tell_record(rt: &impl Print, run: Run) -> io::Result<()> {
     let mut page = Line::new();
     let used = run.show.playing.min(16);
     let lists = lists_of(run);

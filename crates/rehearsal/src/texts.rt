@@ -5,6 +5,7 @@ use crate::given::Bytes;
 use crate::output::say;
 use show::refusal::Refusal;
 use showfile::Written;
+use std::io;
 
 // Longer than any text.
 const LENT: usize = 640;
@@ -16,7 +17,7 @@ pub(crate) fn tell_text<F: Fn(&[u8], &mut [u8]) -> Written>(
     ask: F,
     least: usize,
     hex: &[u8],
-) -> bool
+) -> io::Result<()>
     requires { F.IsAlwaysCallable ask }
 {
     let file = Bytes::of(hex);
@@ -30,7 +31,8 @@ pub(crate) fn tell_text<F: Fn(&[u8], &mut [u8]) -> Written>(
         granted: short.len != 0 || !matches!(short.check, Err(Refusal::BufferShort)),
         ..Faults::default()
     };
-    tell_lines(rt, &long.buffer[..long.len.min(LENT)]) && end(rt, faults)
+    tell_lines(rt, &long.buffer[..long.len.min(LENT)])?;
+    end(rt, faults)
 }
 
 // What was answered with so much of a buffer, the buffer, and whether every byte behind the text is as it was.
@@ -56,12 +58,11 @@ fn asked_in<F: Fn(&[u8], &mut [u8]) -> Written>(ask: &F, file: &[u8], room: usiz
     }
 }
 
-fn tell_lines(rt: &impl Print, text: &[u8]) -> bool {
+fn tell_lines(rt: &impl Print, text: &[u8]) -> io::Result<()> {
     for (k, line) in text.split(|&b| b == b'\n').enumerate() {
         let before = if k == 0 { " -> " } else { "\\n" };
-        if !say(rt, before.as_bytes()) || !say(rt, line) {
-            return false;
-        }
+        say(rt, before.as_bytes())?;
+        say(rt, line)?;
     }
-    true
+    Ok(())
 }
