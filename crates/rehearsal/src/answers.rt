@@ -144,26 +144,12 @@ pub(crate) fn tell_show(rt: &impl Print, form: &[u8], show: Show) -> io::Result<
         ],
     );
     for y in &show.layouts {
-        page.put(
-            b";#,#,#,#",
-            &[
-                y.longest as u64,
-                y.track as u64,
-                y.time as u64,
-                y.rotation as u64,
-            ],
-        );
+        let four = [y.longest, y.track, y.time, y.rotation];
+        page.put(b";#,#,#,#", &four.map(u64::from));
     }
     for x in &show.sessions {
-        page.put(
-            b";#,#,#,#",
-            &[
-                x.rate as u64,
-                x.cushion as u64,
-                x.buffer as u64,
-                x.layout as u64,
-            ],
-        );
+        let four = [x.rate, x.cushion, x.buffer, x.layout];
+        page.put(b";#,#,#,#", &four.map(u64::from));
     }
     page.tell(rt)
 }
