@@ -2,8 +2,8 @@
 use crate::output::Page;
 use reason::Reason;
 use scheduler::Choice;
-use show::Show;
 use show::refusal::Refusal;
+use show::{Drive, Show};
 use std::io;
 use workahead::magnitude;
 
@@ -132,17 +132,15 @@ pub(crate) fn zeros_from(n: usize, lists: &[[u64; 16]]) -> bool {
 // After a form.
 pub(crate) fn tell_show(rt: &impl Print, form: &[u8], show: Show) -> io::Result<()> {
     let mut page = Page::<2048>::new();
-    let (laid, playing) = (show.laid as u64, show.playing as u64);
+    let Drive { block, cylinder } = show.drive;
+    let head = [
+        block as u64,
+        cylinder as u64,
+        show.laid as u64,
+        show.playing as u64,
+    ];
     page.put(form, &[]);
-    page.put(
-        b"#,#,#,#",
-        &[
-            show.drive.block as u64,
-            show.drive.cylinder as u64,
-            laid,
-            playing,
-        ],
-    );
+    page.put(b"#,#,#,#", &head);
     for y in &show.layouts {
         let four = [y.longest, y.track, y.time, y.rotation];
         page.put(b";#,#,#,#", &four.map(u64::from));

@@ -18,7 +18,7 @@ use std::io;
 const LINE_MOST: usize = 65_535;
 
 // The show in memory, or why its file was refused; the run, and the one that is remembered.
-#[derive(Clone, Copy)]
+#[derive(Clone, Copy, Default)]
 struct Case {
     show: Option<Result<Show, Refusal>>,
     run: Option<Run>,
@@ -99,11 +99,7 @@ fn step_of(line: &[u8], stage: Stage) -> Option<Step> {
         return None;
     }
     match (asked_of(line)?, stage) {
-        (Word::Case, _) => Some(plain(Stage::Open(Case {
-            show: None,
-            run: None,
-            kept: None,
-        }))),
+        (Word::Case, _) => Some(plain(Stage::Open(Case::default()))),
         (Word::End, Stage::Open(_)) => Some(plain(Stage::Between)),
         (word, Stage::Open(case)) => step_in(word, line, case),
         _ => None,
