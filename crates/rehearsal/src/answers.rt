@@ -1,164 +1,153 @@
-// Answers: the short ones as values, what is not as it must be, a show, and bytes. Each call that tells answers false where that failed.
-use crate::forms::{BELOW, FAULTS, NEWLINE, NOTHING, OK, REFUSED, VALUE, either, put_said, tell};
-use crate::given::BYTES;
-use crate::output::said;
-use crate::shows::numbers_of;
-use show::Show;
-use show::refusal::{Refusal, Told};
-use text_forms::hex::put_hex;
-use text_forms::put_form;
+// Answers: the short ones as values, what is not as it must be, and a show, put on a page.
+use crate::output::Page;
+use reason::Reason;
+use scheduler::Choice;
+use show::refusal::Refusal;
+use show::{Drive, Show};
+use std::io;
 use workahead::magnitude;
 
 // ---- short answers
 
-// A form and the numbers in it.
+// A `Time` may be below zero.
 #[derive(Clone, Copy)]
-pub(crate) struct Said {
-    pub form: usize,
-    pub a: u64,
-    pub b: u64,
+pub(crate) enum Answer {
+    Done,
+    Idle,
+    Read(usize),
+    Value(u64),
+    Time(i64),
+    Reason(Option<Reason>),
+    Refused(Refusal),
 }
 
-pub(crate) fn said_as(form: usize, a: u64, b: u64) -> Said {
-    Said { form, a, b }
-}
-
-pub(crate) fn refused_as(told: Told) -> Said {
-    Said {
-        form: REFUSED,
-        a: told.number as u64,
-        b: told.place as u64,
+impl From<Result<(), Refusal>> for Answer {
+    fn from(check: Result<(), Refusal>) -> Answer {
+        match check {
+            Ok(()) => Answer::Done,
+            Err(why) => Answer::Refused(why),
+        }
     }
 }
 
-// A time may be below zero.
-pub(crate) fn value_said(t: i64) -> Said {
-    Said {
-        form: either(t < 0, BELOW, VALUE),
-        a: magnitude(t),
-        b: 0,
+impl From<Choice> for Answer {
+    fn from(choice: Choice) -> Answer {
+        match choice {
+            Choice::Idle => Answer::Idle,
+            Choice::Read(session) => Answer::Read(session),
+            Choice::Refused(why) => Answer::Refused(why),
+        }
     }
 }
 
-// The answer, and the end of its line.
-pub(crate) fn tell_answer(rt: &impl Print, said: Said, faults: u64) -> bool {
-    tell(rt, said.form, said.a, said.b, 0, 0) && end(rt, faults)
-}
-
-pub(crate) fn tell_refused(rt: &impl Print, told: Told, faults: u64) -> bool {
-    tell(rt, REFUSED, told.number as u64, told.place as u64, 0, 0) && end(rt, faults)
-}
-
-// The number of a refusal and its place; zeros for none.
-pub(crate) fn told_of(check: Result<(), Refusal>) -> Told {
-    let Err(why) = check else {
-        return Told {
-            number: 0,
-            place: 0,
-        };
-    };
-    why.told()
-}
-
-pub(crate) fn answer_of(told: Told) -> Said {
-    Said {
-        form: either(told.number == 0, OK, REFUSED),
-        a: told.number as u64,
-        b: told.place as u64,
+impl Answer {
+    pub(crate) fn put<const N: usize>(self, page: &mut Page<N>) {
+        match self {
+            Answer::Done => page.put(b" -> ok", &[]),
+            Answer::Idle => page.put(b" -> idle", &[]),
+            Answer::Read(session) => page.put(b" -> read #", &[session as u64]),
+            Answer::Value(n) => page.put(b" -> value #", &[n]),
+            Answer::Time(t) if t < 0 => page.put(b" -> value -#", &[magnitude(t)]),
+            Answer::Time(t) => page.put(b" -> value #", &[magnitude(t)]),
+            Answer::Reason(None) => page.put(b" -> none", &[]),
+            Answer::Reason(Some(Reason::Overload)) => page.put(b" -> overload", &[]),
+            Answer::Reason(Some(Reason::Beyond)) => page.put(b" -> beyond", &[]),
+            Answer::Reason(Some(Reason::Buffer { session, size })) => {
+                page.put(b" -> buffer # #", &[session as u64, size])
+            }
+            Answer::Refused(why) => page.put(b" -> refused # #", &told_of(why)),
+        }
     }
 }
 
-// ---- what is not as it must be: a bit for each word from `FAULTS` on
+// The number of a refusal and its place.
+pub(crate) fn told_of(why: Refusal) -> [u64; 2] {
+    let told = why.told();
+    [told.number as u64, told.place as u64]
+}
 
-pub(crate) const BESIDE: u64 = 1;
+pub(crate) fn tell_answer(rt: &impl Print, answer: Answer) -> io::Result<()> {
+    tell_faulty(rt, answer, Faults::default())
+}
 
-pub(crate) const CHANGED: u64 = 2;
+// The answer, what is not as it must be, and the end of the line.
+pub(crate) fn tell_faulty(rt: &impl Print, answer: Answer, faults: Faults) -> io::Result<()> {
+    let mut page = Page::<128>::new();
+    answer.put(&mut page);
+    faults.put(&mut page);
+    page.tell(rt)
+}
 
-pub(crate) const DIFFERS: u64 = 4;
+// ---- what is not as it must be
 
-pub(crate) const GRANTED: u64 = 8;
+#[derive(Clone, Copy, Default)]
+pub(crate) struct Faults {
+    pub beside: bool,
+    pub changed: bool,
+    pub differs: bool,
+    pub granted: bool,
+    pub note: bool,
+    pub refused: bool,
+    pub unlike: bool,
+}
 
-pub(crate) const NOTE: u64 = 16;
-
-pub(crate) const DENIED: u64 = 32;
-
-const UNLIKE: u64 = 64;
-
-// The bit, where something is not as it must be.
-pub(crate) fn unless(right: bool, bit: u64) -> u64 {
-    if right {
-        return 0;
+impl Faults {
+    // A word for each, and the end of the line.
+    pub(crate) fn put<const N: usize>(self, page: &mut Page<N>) {
+        page.put_if(self.beside, b" beside");
+        page.put_if(self.changed, b" changed");
+        page.put_if(self.differs, b" differs");
+        page.put_if(self.granted, b" granted");
+        page.put_if(self.note, b" note");
+        page.put_if(self.refused, b" refused");
+        page.put_if(self.unlike, b" unlike");
+        page.put(b"\n", &[]);
     }
-    bit
 }
 
-// Where one is refused unlike the other.
-pub(crate) fn unlike(a: Told, b: Told) -> u64 {
-    unless(a.number == b.number, UNLIKE) | unless(a.place == b.place, UNLIKE)
+// The end of a line that has no more to say than what is not as it must be.
+pub(crate) fn end(rt: &impl Print, faults: Faults) -> io::Result<()> {
+    let mut page = Page::<64>::new();
+    faults.put(&mut page);
+    page.tell(rt)
 }
 
-// A word for each fault, and the end of the line.
-pub(crate) fn end(rt: &impl Print, faults: u64) -> bool {
-    let mut out = [0u8; 64];
-    let at = put_faults(&mut out, faults);
-    said(rt, &out, at)
-}
-
-fn put_faults(out: &mut [u8], faults: u64) -> usize {
-    let mut next = 0;
-    let mut left = faults;
-    let mut k = 0;
-    while k < 7 {
-        next = put_said(
-            out,
-            next,
-            either(left % 2 == 1, FAULTS + k, NOTHING),
-            0,
-            0,
-            0,
-            0,
-        );
-        left = left / 2;
-        k += 1;
+// Whether a second call is refused as the first was.
+pub(crate) fn alike(first: Refusal, second: Result<(), Refusal>) -> bool {
+    match second {
+        Ok(()) => false,
+        Err(why) => told_of(first) == told_of(why),
     }
-    put_said(out, next, NEWLINE, 0, 0, 0, 0)
 }
-
-// ---- lists of sixteen
 
 // Whether all behind the first n of each list are zero.
-pub(crate) fn zeros_from(n: usize, lists: &[u64]) -> bool {
-    let mut k = 0;
-    while k < lists.len() {
-        if n <= k % 16 && lists[k] != 0 {
-            return false;
-        }
-        k += 1;
-    }
-    true
+pub(crate) fn zeros_from(n: usize, lists: &[[u64; 16]]) -> bool {
+    lists
+        .iter()
+        .all(|list| list.iter().skip(n).all(|&x| x == 0))
 }
 
-// ---- a show, as a script gives it, and bytes
+// ---- a show, as a script gives it
 
 // After a form.
-pub(crate) fn tell_show(rt: &impl Print, form: usize, show: Show) -> bool {
-    let mut out = [0u8; 2048];
-    let numbers = numbers_of(show);
-    let at = put_said(&mut out, 0, form, 0, 0, 0, 0);
-    let at = put_form(
-        &mut out,
-        at,
-        b"#,#,#,#;#,#,#,#;#,#,#,#;#,#,#,#;#,#,#,#;#,#,#,#;#,#,#,#;#,#,#,#;#,#,#,#;#,#,#,#;#,#,#,#;#,#,#,#;#,#,#,#;\
-          #,#,#,#;#,#,#,#;#,#,#,#;#,#,#,#;#,#,#,#;#,#,#,#;#,#,#,#;#,#,#,#;#,#,#,#;#,#,#,#;#,#,#,#;#,#,#,#",
-        &numbers,
-    );
-    said(rt, &out, at)
-}
-
-// In hex, a dash for none, after a form: as many as a buffer that a script lends.
-pub(crate) fn tell_bytes(rt: &impl Print, form: usize, a: u64, b: u64, bytes: &[u8]) -> bool {
-    let mut out = [0u8; 2 * BYTES + 128];
-    let at = put_said(&mut out, 0, form, a, b, 0, 0);
-    let at = put_hex(&mut out, at, bytes);
-    said(rt, &out, at)
+pub(crate) fn tell_show(rt: &impl Print, form: &[u8], show: Show) -> io::Result<()> {
+    let mut page = Page::<2048>::new();
+    let Drive { block, cylinder } = show.drive;
+    let head = [
+        block as u64,
+        cylinder as u64,
+        show.laid as u64,
+        show.playing as u64,
+    ];
+    page.put(form, &[]);
+    page.put(b"#,#,#,#", &head);
+    for y in &show.layouts {
+        let four = [y.longest, y.track, y.time, y.rotation];
+        page.put(b";#,#,#,#", &four.map(u64::from));
+    }
+    for x in &show.sessions {
+        let four = [x.rate, x.cushion, x.buffer, x.layout];
+        page.put(b";#,#,#,#", &four.map(u64::from));
+    }
+    page.tell(rt)
 }

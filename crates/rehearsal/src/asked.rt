@@ -1,168 +1,195 @@
 // What a line asks for. The words of a line have one space between.
-use crate::forms::at_most;
-use crate::given::{are_counts, is_hex, is_note, is_number, is_show, number_from_end};
-use parse::{part, parts, place_in};
+use crate::given::{BYTES, counts_of, is_hex, low, memory_of, number_from_end};
+use parse::{part, parts};
+use parse_numbers::decimal;
 
-// `Malformed` is a line that is none of these.
+// A call on the run.
 #[derive(Clone, Copy)]
-pub(crate) enum Word {
-    Malformed,
-    Case,
-    Policy,
-    Show,
-    Memory,
-    Junk,
-    Open,
-    Pass,
-    Take,
+pub(crate) enum Call {
     Choose,
-    Finish,
-    Workahead,
     Slack,
     Start,
-    Poke,
-    Save,
-    Back,
-    End,
+    Pass(u64),
+    Finish(u64),
+    Workahead(usize),
+    Take { session: usize, bytes: u64 },
+}
+
+// A question about the show in memory.
+#[derive(Clone, Copy)]
+pub(crate) enum About {
     Decide,
     Why,
     Load,
-    Worst,
+    Worst { session: usize, blocks: u32 },
     Try,
-    Write,
+    Write { room: usize },
+}
+
+// A question about what its line brings.
+#[derive(Clone, Copy)]
+pub(crate) enum Given {
     File,
     Report,
     Explain,
     Player,
 }
 
-// The last number of the line and the one before it, 2^32 where there is none; and the field of a poke.
+// A field of the run record: of the cycle, of the show in it, of one of its layouts, of one of its sessions, of one of the five lists.
 #[derive(Clone, Copy)]
-pub(crate) struct Asked {
-    pub word: Word,
-    pub index: usize,
-    pub value: u64,
-    pub field: usize,
+pub(crate) enum Field {
+    Started,
+    Place,
+    Left,
+    Under,
+    Block,
+    Cylinder,
+    Laid,
+    Playing,
+    Longest,
+    Track,
+    Time,
+    Rotation,
+    Rate,
+    Cushion,
+    Buffer,
+    Layout,
+    Count,
+    Put,
+    Taken,
+    Clock,
+    Order,
 }
 
-// The place of `poke` among the words, and how many fields there are.
-const POKE: usize = 26;
+#[derive(Clone, Copy)]
+pub(crate) enum Word {
+    Case,
+    Policy,
+    End,
+    Show,
+    Memory,
+    Junk,
+    Open,
+    Save,
+    Back,
+    Poke(Field),
+    Call(Call),
+    About(About),
+    Given(Given),
+}
 
-const FIELDS: usize = 21;
-
-pub(crate) fn asked_of(line: &[u8]) -> Asked {
-    let word = place_in(
-        b"choose slack start save back open junk end decide why load pass finish workahead case policy memory try \
-          show file report explain take worst write player poke",
-        part(line, b' ', 0),
-    );
-    let field = place_in(
-        b"started place left under A N lc sc l.far l.one l.blk l.rot s.R s.Y s.B s.lay M P G C O",
-        part(line, b' ', 1),
-    );
-    Asked {
-        word: word_at(judged(line, word, field)),
-        index: number_from_end(line, 2) as usize,
-        value: number_from_end(line, 1),
-        field,
+// None: the line is malformed.
+pub(crate) fn asked_of(line: &[u8]) -> Option<Word> {
+    let last = number_from_end(line, 1).unwrap_or(0);
+    let session = number_from_end(line, 2).unwrap_or(0) as usize;
+    match part(line, b' ', 0) {
+        b"case" => formed(line, b".a", Word::Case),
+        b"policy" => formed(line, b".f", Word::Policy),
+        b"end" => formed(line, b".", Word::End),
+        b"show" => formed(line, b".h", Word::Show),
+        b"memory" => formed(line, b".m", Word::Memory),
+        b"junk" => formed(line, b".", Word::Junk),
+        b"open" => formed(line, b".", Word::Open),
+        b"save" => formed(line, b".", Word::Save),
+        b"back" => formed(line, b".", Word::Back),
+        b"poke" => poke_of(line),
+        b"choose" => formed(line, b".", Word::Call(Call::Choose)),
+        b"slack" => formed(line, b".", Word::Call(Call::Slack)),
+        b"start" => formed(line, b".", Word::Call(Call::Start)),
+        b"pass" => formed(line, b".l", Word::Call(Call::Pass(last))),
+        b"finish" => formed(line, b".l", Word::Call(Call::Finish(last))),
+        b"workahead" => formed(line, b".l", Word::Call(Call::Workahead(last as usize))),
+        b"take" => formed(
+            line,
+            b".ll",
+            Word::Call(Call::Take {
+                session,
+                bytes: last,
+            }),
+        ),
+        b"decide" => formed(line, b".", Word::About(About::Decide)),
+        b"why" => formed(line, b".", Word::About(About::Why)),
+        b"load" => formed(line, b".", Word::About(About::Load)),
+        b"worst" => formed(
+            line,
+            b".lw",
+            Word::About(About::Worst {
+                session,
+                blocks: low(last),
+            }),
+        ),
+        b"try" => formed(line, b".c", Word::About(About::Try)),
+        b"write" => formed(
+            line,
+            b".nr",
+            Word::About(About::Write {
+                room: last as usize,
+            }),
+        ),
+        b"file" => formed(line, b".h", Word::Given(Given::File)),
+        b"report" => formed(line, b".h", Word::Given(Given::Report)),
+        b"explain" => formed(line, b".h", Word::Given(Given::Explain)),
+        b"player" => formed(line, b".lllwwwwbl", Word::Given(Given::Player)),
+        _ => None,
     }
 }
 
-// The place of the word, or one that no word has, where the line is not of its form.
-fn judged(line: &[u8], word: usize, field: usize) -> usize {
-    if are_kinds(line, form_at(word, field)) {
-        return word;
+fn poke_of(line: &[u8]) -> Option<Word> {
+    match part(line, b' ', 1) {
+        b"started" => formed(line, b"..b", Word::Poke(Field::Started)),
+        b"place" => formed(line, b"..w", Word::Poke(Field::Place)),
+        b"left" => formed(line, b"..w", Word::Poke(Field::Left)),
+        b"under" => formed(line, b"..u", Word::Poke(Field::Under)),
+        b"A" => formed(line, b"..w", Word::Poke(Field::Block)),
+        b"N" => formed(line, b"..w", Word::Poke(Field::Cylinder)),
+        b"lc" => formed(line, b"..w", Word::Poke(Field::Laid)),
+        b"sc" => formed(line, b"..w", Word::Poke(Field::Playing)),
+        b"l.far" => formed(line, b"..ew", Word::Poke(Field::Longest)),
+        b"l.one" => formed(line, b"..ew", Word::Poke(Field::Track)),
+        b"l.blk" => formed(line, b"..ew", Word::Poke(Field::Time)),
+        b"l.rot" => formed(line, b"..ew", Word::Poke(Field::Rotation)),
+        b"s.R" => formed(line, b"..iw", Word::Poke(Field::Rate)),
+        b"s.Y" => formed(line, b"..iw", Word::Poke(Field::Cushion)),
+        b"s.B" => formed(line, b"..iw", Word::Poke(Field::Buffer)),
+        b"s.lay" => formed(line, b"..iw", Word::Poke(Field::Layout)),
+        b"M" => formed(line, b"..iw", Word::Poke(Field::Count)),
+        b"P" => formed(line, b"..il", Word::Poke(Field::Put)),
+        b"G" => formed(line, b"..il", Word::Poke(Field::Taken)),
+        b"C" => formed(line, b"..il", Word::Poke(Field::Clock)),
+        b"O" => formed(line, b"..iw", Word::Poke(Field::Order)),
+        _ => None,
     }
-    POKE + 1
 }
 
-// The place of a line's form: after those of the words stand those of the fields that are poked.
-fn form_at(word: usize, field: usize) -> usize {
-    if word < POKE {
-        return word;
-    }
-    if POKE < word {
-        return POKE + FIELDS;
-    }
-    POKE + at_most(field, FIELDS)
+// The word, where the line is of its form, which has a letter for each word of the line.
+fn formed(line: &[u8], kinds: &[u8], word: Word) -> Option<Word> {
+    let good = |(k, kind): (usize, &u8)| is_kind(part(line, b' ', k), *kind);
+    let all = parts(line, b' ') == kinds.len() && kinds.iter().enumerate().all(good);
+    all.then_some(word)
 }
 
-// A form has a letter for each word of its line.
-fn are_kinds(line: &[u8], form: usize) -> bool {
-    let kinds = part(
-        b". . . . . . . . . . . .l .l .l .a .f .m .c .h .h .h .h .ll .lw .nr .lllwwwwbl \
-          ..b ..w ..w ..u ..w ..w ..w ..w ..ew ..ew ..ew ..ew ..iw ..iw ..iw ..iw ..iw ..il ..il ..il ..iw",
-        b' ',
-        form,
-    );
-    let n = parts(line, b' ');
-    let mut k = 0;
-    while k < n && k < kinds.len() {
-        if !is_kind(part(line, b' ', k), kinds[k]) {
-            return false;
-        }
-        k += 1;
-    }
-    n == kinds.len()
-}
-
-// `.` any word, `a` a name, `f` the policy, `c` counts, `h` hex, `m` a show in memory, `n` a note, `u` a read under way; others are numbers.
+// `.` any word, `a` a name, `f` the policy, `c` counts, `h` hex, `m` a show in memory, `n` a note; others are numbers: `b` yes or no,
+// `e` a layout, `i` a session, `r` the room of a buffer, `u` a read under way, `w` 32 bits, `l` 64 bits.
 fn is_kind(text: &[u8], kind: u8) -> bool {
-    let known = place_in(b"fixed -1 -", text);
+    let dash = matches!(text, b"-");
     match kind {
         b'.' => true,
-        b'a' => text.len() != 0,
-        b'f' => known == 0,
-        b'c' => known == 2 || are_counts(text),
-        b'h' => known == 2 || is_hex(text),
-        b'm' => is_show(text),
-        b'n' => known == 2 || is_note(text),
-        b'u' => known == 1 || is_number(text, most(kind)),
-        _ => is_number(text, most(kind)),
+        b'a' => !text.is_empty(),
+        b'f' => matches!(text, b"fixed"),
+        b'c' => dash || counts_of(text).is_some(),
+        b'h' => dash || is_hex(text),
+        b'n' => dash || text.len() <= 2 * BYTES && is_hex(text),
+        b'm' => memory_of(text).is_some(),
+        b'b' => is_number(text, 1),
+        b'e' => is_number(text, 7),
+        b'i' => is_number(text, 15),
+        b'r' => is_number(text, BYTES as u64),
+        b'u' => matches!(text, b"-1") || is_number(text, 4_294_967_295),
+        b'w' => is_number(text, 4_294_967_295),
+        _ => is_number(text, u64::MAX),
     }
 }
 
-// `b` yes or no, `e` a layout, `i` a session, `r` the room of a buffer, `u`, `w` 32 bits, `l` 64 bits.
-fn most(kind: u8) -> u64 {
-    match kind {
-        b'b' => 1,
-        b'e' => 7,
-        b'i' => 15,
-        b'r' => 4096,
-        b'u' | b'w' => 4_294_967_295,
-        _ => u64::MAX,
-    }
-}
-
-fn word_at(place: usize) -> Word {
-    match place {
-        0 => Word::Choose,
-        1 => Word::Slack,
-        2 => Word::Start,
-        3 => Word::Save,
-        4 => Word::Back,
-        5 => Word::Open,
-        6 => Word::Junk,
-        7 => Word::End,
-        8 => Word::Decide,
-        9 => Word::Why,
-        10 => Word::Load,
-        11 => Word::Pass,
-        12 => Word::Finish,
-        13 => Word::Workahead,
-        14 => Word::Case,
-        15 => Word::Policy,
-        16 => Word::Memory,
-        17 => Word::Try,
-        18 => Word::Show,
-        19 => Word::File,
-        20 => Word::Report,
-        21 => Word::Explain,
-        22 => Word::Take,
-        23 => Word::Worst,
-        24 => Word::Write,
-        25 => Word::Player,
-        26 => Word::Poke,
-        _ => Word::Malformed,
-    }
+fn is_number(text: &[u8], most: u64) -> bool {
+    decimal(text).is_some_and(|n| n <= most)
 }

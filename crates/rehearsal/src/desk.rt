@@ -1,201 +1,162 @@
 // The desk that a script is rehearsed at: what there is so far, and what each line makes of it.
-use crate::answers::{end, tell_answer, told_of};
-use crate::asked::{Asked, Word, asked_of};
-use crate::calls::{Called, run_after};
-use crate::forms::{ERROR, tell};
-use crate::output::say;
+use crate::answers::{Answer, tell_answer};
+use crate::asked::{About, Given, Word, asked_of};
+use crate::calls::{answered, opened};
+use crate::fields::poke;
+use crate::given::memory_of;
+use crate::output::{Page, say};
 use crate::questions::{about_given, about_show};
-use crate::record::record;
-use crate::shows::show_after;
-use parse::{part, same};
+use crate::record::tell_record;
+use crate::shows::{junked, read_show};
+use parse::part;
 use run::Run;
 use show::Show;
-use show::refusal::Told;
+use show::refusal::Refusal;
+use std::io;
 
 // A longer line is malformed.
 const LINE_MOST: usize = 65_535;
 
-// `begun`: a case is open. `failed`: a line was malformed, and the next case is waited for. `shown`, `opened`, `saved`: the case has a show,
-// a record, a remembered record.
-#[derive(Clone, Copy)]
-pub(crate) struct Has {
-    pub begun: bool,
-    pub failed: bool,
-    pub shown: bool,
-    pub opened: bool,
-    pub saved: bool,
+// The show in memory, or why its file was refused; the run, and the one that is remembered.
+#[derive(Clone, Copy, Default)]
+struct Case {
+    show: Option<Result<Show, Refusal>>,
+    run: Option<Run>,
+    kept: Option<Run>,
 }
 
-// `lines`: the lines so far. `lost`: an answer could not be written.
-// `refused`: what reading the file was refused with, number 0 where it was read.
+// No case is open; after a malformed line all is passed over until the next case; a case is open.
+#[derive(Clone, Copy)]
+enum Stage {
+    Between,
+    Over,
+    Open(Case),
+}
+
+// `lines`: the lines so far.
 #[derive(Clone, Copy)]
 pub(crate) struct Desk {
-    pub lines: u64,
-    pub lost: bool,
-    pub has: Has,
-    pub refused: Told,
-    pub show: Show,
-    pub run: Run,
-    pub kept: Run,
+    lines: u64,
+    stage: Stage,
 }
 
 impl Desk {
     pub(crate) fn new() -> Desk {
-        let show = Show::nothing();
-        let opened = run::open(show);
-        let run = opened.run;
         Desk {
             lines: 0,
-            lost: false,
-            has: nothing(false, false),
-            refused: told_of(Ok(())),
-            show,
-            run,
-            kept: run,
+            stage: Stage::Between,
         }
     }
 }
 
-// Nothing is kept of the last case.
-fn nothing(begun: bool, failed: bool) -> Has {
-    Has {
-        begun,
-        failed,
-        shown: false,
-        opened: false,
-        saved: false,
+// The desk after a line.
+pub(crate) fn line(rt: &impl Print, bytes: &[u8], desk: Desk) -> io::Result<Desk> {
+    let lines = desk.lines.wrapping_add(1);
+    if matches!(desk.stage, Stage::Over) && !matches!(part(bytes, b' ', 0), b"case") {
+        return Ok(Desk { lines, ..desk });
     }
+    let Some(step) = step_of(bytes, desk.stage) else {
+        tell_error(rt, lines)?;
+        return Ok(Desk {
+            lines,
+            stage: Stage::Over,
+        });
+    };
+    say(rt, bytes)?;
+    tell_reply(rt, bytes, step.reply)?;
+    Ok(Desk {
+        lines,
+        stage: step.stage,
+    })
 }
 
-// ---- lines
+fn tell_error(rt: &impl Print, lines: u64) -> io::Result<()> {
+    let mut page = Page::<64>::new();
+    page.put(b"error #\n", &[lines]);
+    page.tell(rt)
+}
+
+// ---- what a line does
+
+// What is told behind a line: nothing; what a call answers, and under it the record, where there is a run; a question's answer.
+#[derive(Clone, Copy)]
+enum Reply {
+    Plain,
+    Called(Answer, Option<Run>),
+    About(About, Result<Show, Refusal>),
+    Given(Given),
+}
 
 #[derive(Clone, Copy)]
-enum Judged {
-    Over,
-    Malformed,
-    Good,
+struct Step {
+    stage: Stage,
+    reply: Reply,
 }
 
-// `idle`: there is no line.
-pub(crate) fn line(rt: &impl Print, bytes: &[u8], idle: bool, desk: Desk) -> Desk {
-    if idle {
-        return desk;
+// None: the line is malformed, by its form or by what there is.
+fn step_of(line: &[u8], stage: Stage) -> Option<Step> {
+    if LINE_MOST < line.len() {
+        return None;
     }
-    let has = desk.has;
-    let asked = asked_of(bytes);
-    let mut next = desk;
-    next.lines = std::num::wrapping_add_u64(desk.lines, 1);
-    let judged = judge(bytes, asked, has);
-    match judged {
-        Judged::Over => next,
-        Judged::Malformed => {
-            next.has = nothing(false, true);
-            next.lost = !tell(rt, ERROR, next.lines, 0, 0, 0);
-            next
-        }
-        Judged::Good => taken(rt, bytes, asked, next),
+    match (asked_of(line)?, stage) {
+        (Word::Case, _) => Some(plain(Stage::Open(Case::default()))),
+        (Word::End, Stage::Open(_)) => Some(plain(Stage::Between)),
+        (word, Stage::Open(case)) => step_in(word, line, case),
+        _ => None,
     }
 }
 
-// After a malformed line all is passed over until the next case.
-fn judge(bytes: &[u8], asked: Asked, has: Has) -> Judged {
-    let word = asked.word;
-    if has.failed {
-        if !same(part(bytes, b' ', 0), b"case") {
-            return Judged::Over;
-        }
+fn plain(stage: Stage) -> Step {
+    Step {
+        stage,
+        reply: Reply::Plain,
     }
-    if LINE_MOST < bytes.len() || !allowed(word, has) {
-        return Judged::Malformed;
-    }
-    Judged::Good
 }
 
-// Whether there is what such a line needs.
-fn allowed(word: Word, has: Has) -> bool {
+// Each word takes what it needs from the case. Where a case begins and ends is said above.
+fn step_in(word: Word, line: &[u8], case: Case) -> Option<Step> {
+    let operand = part(line, b' ', 1);
+    let mut next = case;
+    let mut reply = Reply::Plain;
     match word {
-        Word::Malformed => false,
-        Word::Case => true,
-        Word::Policy | Word::Show | Word::Memory | Word::End => has.begun,
-        Word::File | Word::Report | Word::Explain | Word::Player => has.begun,
-        Word::Junk | Word::Open => has.shown,
-        Word::Decide | Word::Why | Word::Load | Word::Worst | Word::Try | Word::Write => has.shown,
-        Word::Back => has.saved,
-        _ => has.opened,
-    }
-}
-
-// What there is after the line.
-fn has_after(word: Word, has: Has, opened: bool) -> Has {
-    let mut next = has;
-    match word {
-        Word::Case => {
-            return nothing(true, false);
+        Word::Show => next.show = Some(read_show(operand)),
+        Word::Memory => next.show = Some(Ok(memory_of(operand)?)),
+        Word::Junk => next.show = Some(case.show?.map(junked)),
+        Word::Open => {
+            let run = opened(case.show?);
+            next.run = run.ok();
+            reply = Reply::Called(Answer::from(run.map(|_| ())), next.run);
         }
-        Word::End => {
-            return nothing(false, false);
+        Word::Call(call) => {
+            let called = answered(call, case.run?);
+            next.run = Some(called.run);
+            reply = Reply::Called(called.answer, next.run);
         }
-        Word::Show | Word::Memory => next.shown = true,
-        Word::Open | Word::Back => next.opened = opened,
-        Word::Save => next.saved = true,
-        _ => {
-            return has;
+        Word::Poke(field) => next.run = Some(poke(case.run?, field, line)),
+        Word::Save => next.kept = Some(case.run?),
+        Word::Back => next.run = Some(case.kept?),
+        Word::About(about) => reply = Reply::About(about, case.show?),
+        Word::Given(given) => reply = Reply::Given(given),
+        Word::Case | Word::Policy | Word::End => {}
+    }
+    Some(Step {
+        stage: Stage::Open(next),
+        reply,
+    })
+}
+
+// ---- what is told of it
+
+fn tell_reply(rt: &impl Print, line: &[u8], reply: Reply) -> io::Result<()> {
+    match reply {
+        Reply::Plain => say(rt, b"\n"),
+        Reply::Called(answer, None) => tell_answer(rt, answer),
+        Reply::Called(answer, Some(run)) => {
+            tell_answer(rt, answer)?;
+            tell_record(rt, run)
         }
-    }
-    next
-}
-
-fn taken(rt: &impl Print, bytes: &[u8], asked: Asked, desk: Desk) -> Desk {
-    let word = asked.word;
-    let shown = show_after(word, part(bytes, b' ', 1), desk.show, desk.refused);
-    let called = run_after(asked, desk.show, desk.refused, desk.run, desk.kept);
-    let show = shown.show;
-    let refused = shown.refused;
-    let run = called.run;
-    Desk {
-        lines: desk.lines,
-        lost: !answered(rt, bytes, asked, called, show, refused),
-        has: has_after(word, desk.has, called.opened),
-        refused,
-        show,
-        run,
-        kept: kept_after(word, run, desk.kept),
-    }
-}
-
-fn kept_after(word: Word, run: Run, kept: Run) -> Run {
-    match word {
-        Word::Save => run,
-        _ => kept,
-    }
-}
-
-// The line again; after it what a call answers, and the record; a question's answer; any other line just ends.
-fn answered(
-    rt: &impl Print,
-    bytes: &[u8],
-    asked: Asked,
-    called: Called,
-    show: Show,
-    refused: Told,
-) -> bool {
-    let word = asked.word;
-    if !say(rt, bytes) {
-        return false;
-    }
-    match word {
-        Word::Pass
-        | Word::Take
-        | Word::Choose
-        | Word::Finish
-        | Word::Workahead
-        | Word::Slack
-        | Word::Start
-        | Word::Open => tell_answer(rt, called.answer, 0) && record(rt, called.run, called.opened),
-        Word::Decide | Word::Why | Word::Load | Word::Worst | Word::Try | Word::Write => about_show(
-            rt, bytes, asked, show, refused,
-        ),
-        Word::File | Word::Report | Word::Explain | Word::Player => about_given(rt, bytes, asked),
-        _ => end(rt, 0),
+        Reply::About(about, Ok(show)) => about_show(rt, line, about, show),
+        Reply::About(_, Err(why)) => tell_answer(rt, Answer::Refused(why)),
+        Reply::Given(given) => about_given(rt, line, given),
     }
 }

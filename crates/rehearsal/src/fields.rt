@@ -1,96 +1,38 @@
-// One field of a run record overwritten. Fields are counted in the order in which a script's names for them stand (asked).
-ghost use Rattle.std.specs.Prelude.{◌<◌};
-
-use crate::given::low;
-use crate::shows::{numbers_of, show_of};
+// One field of a run record overwritten.
+use crate::asked::Field;
+use crate::given::{low, number_from_end};
 use run::Run;
-use state::State;
 
-// The first fields of the show, of its layouts, of its sessions, and of the run's lists.
-const OF_SHOW: usize = 4;
-
-const OF_LAYOUTS: usize = 8;
-
-const OF_SESSIONS: usize = 12;
-
-const OF_LISTS: usize = 16;
-
-// The line that asks was tested for its index and its value.
-pub(crate) fn poke(run: Run, field: usize, index: usize, value: u64) -> Run {
-    if field < OF_SHOW {
-        return with_cycle(run, field, value);
-    }
-    if field < OF_LISTS {
-        return with_number(run, number_at(field, index), value);
-    }
-    with_listed(run, field - OF_LISTS, index % 16, value)
-}
-
-fn with_cycle(run: Run, field: usize, value: u64) -> Run {
+// The last number of the line is the value; before it stands the index of a field that there are several of. The line was tested for both.
+// A read under way is one where there is a number.
+pub(crate) fn poke(run: Run, field: Field, line: &[u8]) -> Run {
+    let number = number_from_end(line, 1);
+    let value = number.unwrap_or(0);
+    let n = low(value);
+    let i = number_from_end(line, 2).unwrap_or(0) as usize % 16;
     let mut next = run;
     match field {
-        0 => next.started = value == 1,
-        1 => next.place = value as usize,
-        2 => next.left = low(value),
-        _ => {
-            return run.with_cycle(run.place, run.left, underway_of(value));
-        }
-    }
-    next
-}
-
-// What is no number of 32 bits is -1, and means nothing.
-fn underway_of(value: u64) -> Option<usize> {
-    if 4_294_967_295 < value {
-        return None;
-    }
-    Some(value as usize)
-}
-
-// The place of a field of the show among its hundred numbers.
-fn number_at(field: usize, index: usize) -> usize
-    ensures { result < 100 }
-{
-    let k = field % 4;
-    if field < OF_LAYOUTS {
-        return k;
-    }
-    if field < OF_SESSIONS {
-        return 4 + 4 * (index % 8) + k;
-    }
-    36 + 4 * (index % 16) + k
-}
-
-fn with_number(run: Run, at: usize, value: u64) -> Run
-    requires { at < 100 }
-{
-    let mut numbers = numbers_of(run.show);
-    numbers[at] = value;
-    let show = show_of(numbers);
-    let mut next = run;
-    next.show = show;
-    next
-}
-
-fn with_listed(run: Run, list: usize, i: usize, value: u64) -> Run
-    requires { i < 16 }
-{
-    let mut next = run;
-    let state = run.states[i];
-    match list {
-        0 => next.counts[i] = low(value),
-        4 => next.order[i] = low(value),
-        _ => next.states[i] = state_with(state, list, value),
-    }
-    next
-}
-
-fn state_with(state: State, list: usize, value: u64) -> State {
-    let mut next = state;
-    match list {
-        1 => next.put = value,
-        2 => next.taken = value,
-        _ => next.clock = value,
+        Field::Started => next.started = value == 1,
+        Field::Place => next.place = value as usize,
+        Field::Left => next.left = n,
+        Field::Under => next.underway = number.map(|session| session as usize),
+        Field::Block => next.show.drive.block = n,
+        Field::Cylinder => next.show.drive.cylinder = n,
+        Field::Laid => next.show.laid = value as usize,
+        Field::Playing => next.show.playing = value as usize,
+        Field::Longest => next.show.layouts[i % 8].longest = n,
+        Field::Track => next.show.layouts[i % 8].track = n,
+        Field::Time => next.show.layouts[i % 8].time = n,
+        Field::Rotation => next.show.layouts[i % 8].rotation = n,
+        Field::Rate => next.show.sessions[i].rate = n,
+        Field::Cushion => next.show.sessions[i].cushion = n,
+        Field::Buffer => next.show.sessions[i].buffer = n,
+        Field::Layout => next.show.sessions[i].layout = n,
+        Field::Count => next.counts[i] = n,
+        Field::Put => next.states[i].put = value,
+        Field::Taken => next.states[i].taken = value,
+        Field::Clock => next.states[i].clock = value,
+        Field::Order => next.order[i] = n,
     }
     next
 }

@@ -1,105 +1,68 @@
 // The calculator's text of a file, and why it is refused, as one line: each newline is written \n.
-ghost use Rattle.std.specs.Prelude.{◌≤◌, length};
-
-use crate::answers::{CHANGED, DENIED, DIFFERS, GRANTED, end, told_of, unless};
+use crate::answers::{Faults, end};
 use crate::files::{fill, filled};
-use crate::forms::{ARROW, BREAK, either, tell};
-use crate::given::{BYTES, bytes_of};
+use crate::given::Bytes;
 use crate::output::say;
-use parse::{part, parts, same};
+use show::refusal::Refusal;
 use showfile::Written;
+use std::io;
 
 // Longer than any text.
 const LENT: usize = 640;
 
-#[derive(Clone, Copy)]
-pub(crate) enum Call {
-    Report,
-    Explain,
-}
-
-pub(crate) fn tell_text(rt: &impl Print, call: Call, hex: &[u8]) -> bool {
-    let mut file = [0u8; BYTES];
-    let n = bytes_of(hex, &mut file);
-    tell_asked(rt, call, &file[0..n])
-}
-
-// Asked three times: with a long buffer, with one that is just long enough, and with one that is a byte too short, which is 16.
-fn tell_asked(rt: &impl Print, call: Call, file: &[u8]) -> bool {
-    let mut buffer = [0u8; LENT];
-    let mut other = [0u8; LENT];
-    let long = asked_in(call, file, LENT, &mut buffer);
-    let just = asked_in(call, file, least(call), &mut other);
-    let n = long.len;
-    let faults = long_faults(long, just.len, same(&buffer, &other)) | short_faults(call, file);
-    tell_lines(rt, &buffer[0..n]) && end(rt, faults)
-}
-
-fn long_faults(long: Text, just: usize, alike: bool) -> u64 {
-    unless(long.number == 0, DENIED)
-        | unless(long.kept, CHANGED)
-        | unless(long.len == just, DIFFERS)
-        | unless(alike, DIFFERS)
-}
-
-fn short_faults(call: Call, file: &[u8]) -> u64 {
-    let mut buffer = [0u8; LENT];
-    let short = asked_in(call, file, least(call) - 1, &mut buffer);
-    unless(short.len == 0, GRANTED)
-        | unless(short.number == 16, GRANTED)
-        | unless(short.kept, CHANGED)
-}
-
-fn ask(call: Call, file: &[u8], buffer: &mut [u8]) -> Written
-    ensures { result.len ≤ length buffer.new }
+// Asked three times: with a long buffer, with one that is just long enough, and with one that is a byte too short, which is refused.
+// `least`: the shortest buffer that is granted.
+pub(crate) fn tell_text<F: Fn(&[u8], &mut [u8]) -> Written>(
+    rt: &impl Print,
+    ask: F,
+    least: usize,
+    hex: &[u8],
+) -> io::Result<()>
+    requires { F.IsAlwaysCallable ask }
 {
-    match call {
-        Call::Report => report::report(file, buffer),
-        Call::Explain => explain::explain(file, buffer),
-    }
+    let file = Bytes::of(hex);
+    let long = asked_in(&ask, file.as_slice(), LENT);
+    let just = asked_in(&ask, file.as_slice(), least);
+    let short = asked_in(&ask, file.as_slice(), least.saturating_sub(1));
+    let faults = Faults {
+        refused: long.check.is_err(),
+        changed: !long.kept || !short.kept,
+        differs: long.len != just.len || long.buffer != just.buffer,
+        granted: short.len != 0 || !matches!(short.check, Err(Refusal::BufferShort)),
+        ..Faults::default()
+    };
+    tell_lines(rt, &long.buffer[..long.len.min(LENT)])?;
+    end(rt, faults)
 }
 
-// The shortest buffer that is granted.
-fn least(call: Call) -> usize
-    ensures { (1 ≤ result) × (result ≤ 640) }
-{
-    match call {
-        Call::Report => report::TEXT_MOST,
-        Call::Explain => explain::TEXT_MOST,
-    }
-}
-
-// The length of a text, the number that it was refused with, or 0, and whether every byte behind it is as it was.
+// What was answered with so much of a buffer, the buffer, and whether every byte behind the text is as it was.
 #[derive(Clone, Copy)]
 struct Text {
+    check: Result<(), Refusal>,
     len: usize,
-    number: u32,
+    buffer: [u8; LENT],
     kept: bool,
 }
 
-fn asked_in(call: Call, file: &[u8], room: usize, buffer: &mut [u8]) -> Text
-    requires { room ≤ length buffer.old }
-    ensures { result.len ≤ length buffer.new }
+fn asked_in<F: Fn(&[u8], &mut [u8]) -> Written>(ask: &F, file: &[u8], room: usize) -> Text
+    requires { F.IsAlwaysCallable ask.now }
 {
-    fill(buffer);
-    let told = ask(call, file, &mut buffer[0..room]);
-    let check = told.check;
-    let refused = told_of(check);
-    let n = told.len;
+    let mut buffer = [0u8; LENT];
+    fill(&mut buffer);
+    let wrote = ask(file, &mut buffer[..room.min(LENT)]);
     Text {
-        len: n,
-        number: refused.number,
-        kept: filled(buffer, n),
+        check: wrote.check,
+        len: wrote.len,
+        kept: filled(&buffer, wrote.len),
+        buffer,
     }
 }
 
-fn tell_lines(rt: &impl Print, text: &[u8]) -> bool {
-    let n = parts(text, b'\n');
-    let mut good = true;
-    let mut k = 0;
-    while k < n && good {
-        good = tell(rt, either(k == 0, ARROW, BREAK), 0, 0, 0, 0) && say(rt, part(text, b'\n', k));
-        k += 1;
+fn tell_lines(rt: &impl Print, text: &[u8]) -> io::Result<()> {
+    for (k, line) in text.split(|&b| b == b'\n').enumerate() {
+        let before = if k == 0 { " -> " } else { "\\n" };
+        say(rt, before.as_bytes())?;
+        say(rt, line)?;
     }
-    good
+    Ok(())
 }
