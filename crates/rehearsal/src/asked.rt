@@ -3,7 +3,7 @@ use crate::given::{BYTES, counts_of, is_hex, low, memory_of, number_from_end};
 use parse::{part, parts};
 use parse_numbers::decimal;
 
-// A call on the run.
+// A call on the run, with its µs, its session or its session and bytes.
 #[derive(Clone, Copy)]
 pub(crate) enum Call {
     Choose,
@@ -12,18 +12,18 @@ pub(crate) enum Call {
     Pass(u64),
     Finish(u64),
     Workahead(usize),
-    Take { session: usize, bytes: u64 },
+    Take(usize, u64),
 }
 
-// A question about the show in memory.
+// A question about the show in memory: `Worst` of a session and its blocks, `Write` into so much room.
 #[derive(Clone, Copy)]
 pub(crate) enum About {
     Decide,
     Why,
     Load,
-    Worst { session: usize, blocks: u32 },
+    Worst(usize, u32),
     Try,
-    Write { room: usize },
+    Write(usize),
 }
 
 // A question about what its line brings.
@@ -99,33 +99,13 @@ pub(crate) fn asked_of(line: &[u8]) -> Option<Word> {
         b"pass" => formed(line, b".l", Word::Call(Call::Pass(last))),
         b"finish" => formed(line, b".l", Word::Call(Call::Finish(last))),
         b"workahead" => formed(line, b".l", Word::Call(Call::Workahead(last as usize))),
-        b"take" => formed(
-            line,
-            b".ll",
-            Word::Call(Call::Take {
-                session,
-                bytes: last,
-            }),
-        ),
+        b"take" => formed(line, b".ll", Word::Call(Call::Take(session, last))),
         b"decide" => formed(line, b".", Word::About(About::Decide)),
         b"why" => formed(line, b".", Word::About(About::Why)),
         b"load" => formed(line, b".", Word::About(About::Load)),
-        b"worst" => formed(
-            line,
-            b".lw",
-            Word::About(About::Worst {
-                session,
-                blocks: low(last),
-            }),
-        ),
+        b"worst" => formed(line, b".lw", Word::About(About::Worst(session, low(last)))),
         b"try" => formed(line, b".c", Word::About(About::Try)),
-        b"write" => formed(
-            line,
-            b".nr",
-            Word::About(About::Write {
-                room: last as usize,
-            }),
-        ),
+        b"write" => formed(line, b".nr", Word::About(About::Write(last as usize))),
         b"file" => formed(line, b".h", Word::Given(Given::File)),
         b"report" => formed(line, b".h", Word::Given(Given::Report)),
         b"explain" => formed(line, b".h", Word::Given(Given::Explain)),

@@ -49,7 +49,7 @@ pub(crate) fn answered(call: Call, run: Run) -> Called {
         Call::Start => Called::from(spare::start(run)),
         Call::Pass(d) => Called::from(playback::pass(run, d)),
         Call::Finish(d) => Called::from(playback::finish(run, d)),
-        Call::Take { session, bytes } => Called::from(playback::take(run, session, bytes)),
+        Call::Take(session, bytes) => Called::from(playback::take(run, session, bytes)),
     }
 }
 

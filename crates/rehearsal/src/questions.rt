@@ -26,13 +26,13 @@ pub(crate) fn about_show(rt: &impl Print, line: &[u8], about: About, show: Show)
             rt,
             reason::load(show).map_or_else(Answer::Refused, Answer::Value),
         ),
-        About::Worst { session, blocks } => tell_answer(
+        About::Worst(session, blocks) => tell_answer(
             rt,
             worst_time(show, session, blocks).map_or_else(Answer::Refused, Answer::Value),
         ),
         About::Decide => tell_decision(rt, show),
         About::Try => tell_trial(rt, show, counts_of(operand).unwrap_or([0; 16])),
-        About::Write { room } => tell_written(rt, show, operand, room),
+        About::Write(room) => tell_written(rt, show, operand, room),
     }
 }
 
