@@ -10,7 +10,7 @@ use reason::Reason;
 use show::refusal::Refusal;
 use verdict::Decision;
 
-// Some slice is too short for its answer: 16.
+// Some slice is too short for its answer: 16. Refusals and reasons are numbers here: the interface for C has no enums.
 const SHORT: u64 = 16;
 
 // The calculator's text for a file, from the buffer's first byte on, and its length; 0 for a buffer that would not take every text.

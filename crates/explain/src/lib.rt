@@ -85,7 +85,8 @@ fn put_text(file: &[u8], out: &mut [u8; TEXT_MOST]) -> usize
     }
 }
 
-// Puts the text from the buffer's first byte on and answers its length; or 16, where the buffer would not take every text.
+// Puts the text from the buffer's first byte on and answers its length; or 16, where the buffer would not take every text. `report` is its
+// twin in form alone: the two contracts name two relations.
 pub fn explain(file: &[u8], buffer: &mut [u8]) -> Written
     ensures explain_is { ExplainIs file.now buffer.old result buffer.new }
     ensures len_in_bounds { result.len ≤ length buffer.new }

@@ -21,6 +21,7 @@ pub fn read_all<R: Read>(input: &mut R, room: &mut [u8]) -> Came
     ensures bytes { Consumes (R.remaining input.old) (R.remaining input.new) (take result.len room.new) }
     ensures end { result.failed ≡ false → result.len < length room.new → IsAtEnd (R.remaining input.new) }
 {
+    // No `for`: each read gives as many bytes as came.
     let mut at = 0;
     while at < room.len() {
         let came = read_at(input, room, at);

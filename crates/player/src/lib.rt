@@ -52,7 +52,7 @@ pub fn take(state: &mut State, session: Session, started: bool, n: u64) -> Resul
     drawn.check
 }
 
-// For a caller that has nothing to lend: plain parameters.
+// For a caller that has nothing to lend: plain parameters. What `take_from` answers, by `take`: both names are promised (docs/PROMISES.md).
 pub fn take_lent(given: State, session: Session, started: bool, n: u64) -> Drawn
     ensures { result ≡ drawn_of given session started n }
 {

@@ -11,7 +11,8 @@ use state::State;
 use verdict::decide;
 
 // The show as it was given; each session's count and state; the cycle's order, its place in it, and what is left of the count there.
-// Places from `show.playing` on are not looked at.
+// Places from `show.playing` on are not looked at. Rows side by side and not a row of structs: `tried` takes the counts alone, `left_in`
+// counts and order, and theorem Unseen (crates/promises/specs) tells what is looked at row by row.
 #[derive(Clone, Copy)]
 pub struct Run {
     pub show: Show,

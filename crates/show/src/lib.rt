@@ -35,6 +35,7 @@ pub struct Session {
 }
 
 // The first `laid` layouts and the first `playing` sessions are the show; the places above are not looked at.
+// Arrays by value with their counts beside them: a rule of the project (docs/DECISIONS.md, "Forms"), and no heap.
 #[derive(Clone, Copy)]
 pub struct Show {
     pub drive: Drive,
@@ -114,7 +115,7 @@ impl Show {
 
     pub const PLAYING_MOST: usize = 16;
 
-    // Zeros throughout, for an answer that has no show.
+    // Zeros throughout, for an answer that has no show. By its fields, as `no_show` in the contract is; a derived `Default` would be a second name.
     pub fn nothing() -> Show
         ensures { result ≡ no_show }
     {

@@ -26,7 +26,8 @@ pub enum Refusal {
     Damaged,
 }
 
-// How a refusal is told: its number, and the place, which is 0 but for 6 and 7.
+// How a refusal is told: its number, and the place, which is 0 but for 6 and 7. Numbers, since `told_of` in the contract, the desk and the
+// calls for C know refusals by them; `told` is no `From`, so that the pages can name it.
 #[derive(Clone, Copy)]
 pub struct Told {
     pub number: u32,

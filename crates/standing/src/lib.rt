@@ -18,7 +18,7 @@ use show::refusal::Refusal;
 use trial::tried;
 use workahead::ahead_of;
 
-// The workahead, the worst time and the place of each session.
+// The workahead, the worst time and the place of each session, in rows: `places` and `ordered` (crate order) and `tried` take or make one each.
 #[derive(Clone, Copy)]
 pub struct Standing {
     pub playing: usize,

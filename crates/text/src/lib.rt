@@ -60,7 +60,8 @@ pub fn put_paired(
     put_numbered(out, next, b"", b, after)
 }
 
-// Whether three texts fit from `at` on, one after the other.
+// Whether three texts fit from `at` on, one after the other. No `write!` and no `Display`: what does not fit in whole is not put at all, as
+// `put_over` in the contracts says.
 fn fits(len: usize, at: usize, first: usize, second: usize, third: usize) -> bool
     ensures { Tells result (at + (first + (second + third)) ≤ len) }
 {

@@ -20,7 +20,7 @@ pub fn put_hex(out: &mut [u8], at: usize, bytes: &[u8]) -> usize
     put_pairs(out, at, bytes)
 }
 
-// Whether two digits fit for each of n bytes: the room is counted down, so that no sum overflows.
+// Whether two digits fit for each of n bytes: the room is counted down, so that no sum overflows. As `fits` of crate text, which is private.
 fn pairs_fit(len: usize, at: usize, n: usize) -> bool
     ensures { Tells result (at + (n + n) ≤ len) }
 {

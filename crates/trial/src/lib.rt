@@ -16,6 +16,7 @@ use show::refusal::Refusal;
 use show::{Session, Show};
 
 // L of given counts and the worst time of each; zeros above the session count, and everywhere if refused.
+// A struct and no `Result` around it: theorem Empty (crates/promises/specs/Refusals) has the zeros beside a refusal.
 #[derive(Clone, Copy)]
 pub struct Trial {
     pub answer: Result<bool, Refusal>,

@@ -17,6 +17,7 @@ use show::Show;
 use show::refusal::Refusal;
 
 // L, and each session's count and the worst time for it; zeros above the session count, and everywhere if refused.
+// No `Result`: theorem Empty (crates/promises/specs/Refusals) has the zeros beside a refusal. Counts and times in rows: C is lent one for each.
 #[derive(Clone, Copy)]
 pub struct Decision {
     pub verdict: Result<(), Refusal>,

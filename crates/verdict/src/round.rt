@@ -27,7 +27,8 @@ fn sooner(block: u32, session: Session, end: u64) -> u64
     last.min(end)
 }
 
-// The first time over which some count no longer fits its buffer.
+// The first time over which some count no longer fits its buffer. `ShowWithin` is a clause of each function that borrows a show, here, in `reason`
+// and in `trial`: a type that has it would be public in `show`, and each use of the show would go through it.
 fn end_of(show: &Show) -> u64
     requires { ShowWithin show.now }
     ensures { EndIs show.now result }
@@ -54,7 +55,8 @@ fn rates_of(show: &Show) -> [u64; 16]
 }
 
 // The time t at which the counts that t asks for take no longer than t; none, once a count does not fit. A count that is still
-// ahead stays, and a longer time counts at once for the sessions after it. Both loops stand here, since they share the rows.
+// ahead stays, and a longer time counts at once for the sessions after it. Both loops stand here, since they share the rows. A `loop`: how
+// many turns there are is known by none.
 pub(crate) fn settle(show: &Show) -> Option<u64>
     requires { ShowWithin show.now }
     ensures { SettledAs show.now result }
