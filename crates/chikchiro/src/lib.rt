@@ -40,8 +40,7 @@ pub fn chikchiro_decide(
         return SHORT;
     }
     let decision = decided(file);
-    let verdict = decision.verdict;
-    if let Err(why) = verdict {
+    if let Err(why) = decision.verdict {
         return code(why);
     }
     counts[..16].copy_from_slice(&decision.counts);
@@ -80,8 +79,7 @@ fn decided(file: &[u8]) -> Decision
     ensures { FileDecisionIs file.now result }
 {
     let got = showfile::read(file);
-    let check = got.check;
-    if let Err(why) = check {
+    if let Err(why) = got.check {
         return Decision {
             verdict: Err(why),
             round: 0,
@@ -97,10 +95,7 @@ fn reasoned(file: &[u8]) -> Result<Option<Reason>, Refusal>
     ensures { FileReasonIs file.now result }
 {
     let got = showfile::read(file);
-    let check = got.check;
-    if let Err(why) = check {
-        return Err(why);
-    }
+    got.check?;
     reason::why(got.show)
 }
 
