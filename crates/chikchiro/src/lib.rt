@@ -74,7 +74,7 @@ fn put_found(out: &mut [u64], reason: Reason) -> u64
     }
 }
 
-// What is decided of the show in a file, or why there is none.
+// What is decided of the show in a file, or why there is none: zeros, as `verdict` has them, whose function for it is private.
 fn decided(file: &[u8]) -> Decision
     ensures { FileDecisionIs file.now result }
 {

@@ -8,7 +8,7 @@ const BACK: usize = 16;
 
 const TRAILER: usize = 20;
 
-// ---- what is read
+// ---- what is read, as the jobs on shows
 
 pub(crate) fn reads(file: &mut [u8], turns: u64) -> u64 {
     over(turns, |k| read(turned(file, k)))
@@ -70,7 +70,7 @@ fn write(show: Show, note: &[u8]) -> u64 {
     ])
 }
 
-// The lowest byte of N in a file that was written; 0 where none was.
+// The lowest byte of N in a file that was written; 0 where none was, as bench/pace.c has it.
 fn low_of(file: &[u8]) -> u8 {
     let n = file.len();
     if n < TRAILER {

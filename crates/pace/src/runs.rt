@@ -90,7 +90,7 @@ fn kept(moved: Moved, run: &mut Run) -> u64 {
     number_of(moved.check)
 }
 
-// ---- calls that ask of the run
+// ---- calls that ask of the run: a function for both would be lent the call, with a `requires` on it
 
 pub(crate) fn slacks(run: Run, turns: u64) -> u64 {
     let run = bitten(run);

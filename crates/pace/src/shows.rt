@@ -3,7 +3,7 @@ use crate::sums::{last, number, number_of, odd, over, total};
 use reason::Reason;
 use show::Show;
 
-// The loop alone.
+// The loop alone. Those below differ in the call: one function for them would be lent it, with a `requires` on it.
 pub(crate) fn nothings(turns: u64) -> u64 {
     over(turns, |k| k)
 }

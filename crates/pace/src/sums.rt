@@ -23,7 +23,7 @@ pub(crate) fn total<const N: usize>(numbers: [u64; N]) -> u64 {
     sum
 }
 
-// The refusal's number; 0 where it is none.
+// The refusal's number; 0 where it is none, as bench/pace.c has it.
 pub(crate) fn number_of(check: Result<(), Refusal>) -> u64 {
     check.err().map_or(0, number)
 }

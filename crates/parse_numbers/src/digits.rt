@@ -3,6 +3,7 @@ ghost use Rattle.std.specs.Prelude.{◌≡◌, Some};
 ghost use Rattle.parse_numbers.specs.Numbers.{digit_of, longer_by, fitting};
 ghost use Rattle.parse_numbers.specs.Bytes.{hex_of, byte_of};
 
+// A byte is no `char`, which `to_digit` is of; and `hex_digit` has letters besides.
 #[tactic(auto, using(crate::proofs::Values::counting))]
 fn digit(b: u8) -> Option<u64>
     ensures { result ≡ digit_of b }

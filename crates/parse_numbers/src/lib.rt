@@ -31,6 +31,7 @@ pub fn unhex(text: &[u8], out: &mut [u8]) -> Option<u64>
     ensures put { out.new ≡ put_of (bytes_of text.now) out.old }
 {
     let all = bytes(text)?;
+    // Two by two and not by chunks: two slices go side by side. No 0 is put, since `bytes` found digits alone.
     for i in 0..all.min(out.len()) {
         out[i] = pair(text[2 * i], text[2 * i + 1]).unwrap_or(0);
     }

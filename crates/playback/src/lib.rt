@@ -46,7 +46,7 @@ fn advance(run: &Run, d: u64) -> [State; 16]
     states
 }
 
-// Time goes by, d µs: 19, 11.
+// Time goes by, d µs: 19, 11. Here and below a closure says how a refusal hands the run back: a function for all calls would be a public one.
 #[tactic(auto, unfolding(crate::specs::Answers::pass_of, crate::specs::Answers::pass_check, run::specs::Steps::passed))]
 pub fn pass(mut run: Run, d: u64) -> Moved
     ensures { result ≡ pass_of run d }

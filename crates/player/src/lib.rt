@@ -16,7 +16,7 @@ pub struct Drawn {
     pub state: State,
 }
 
-// n bytes taken of a session in such a state: 19, 12, 10.
+// n bytes taken of a session in such a state: 19, 12, 10. State, session and start go together in three calls that are promised so.
 #[tactic(auto, unfolding(crate::specs::Answers::take_check, crate::specs::Answers::drawn_of))]
 pub fn take_from(state: State, session: Session, started: bool, n: u64) -> Drawn
     ensures { result ≡ drawn_of state session started n }

@@ -15,7 +15,7 @@ struct Sums {
     pub edges: u64,
 }
 
-// The load is full x whole + part.
+// The load is full x whole + part. In form like `Span` of count, which is private there and means a time.
 #[derive(Clone, Copy)]
 pub(crate) struct Work {
     pub full: u64,

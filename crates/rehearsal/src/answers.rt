@@ -9,7 +9,7 @@ use workahead::magnitude;
 
 // ---- short answers
 
-// A `Time` may be below zero.
+// A `Time` may be below zero. A refusal is one of the answers, and no `Err`: it has its words like the others.
 #[derive(Clone, Copy)]
 pub(crate) enum Answer {
     Done,
@@ -112,7 +112,7 @@ pub(crate) fn end(rt: &impl Print, faults: Faults) -> io::Result<()> {
     page.tell(rt)
 }
 
-// Whether a second call is refused as the first was.
+// Whether a second call is refused as the first was, by what is told of both: nothing in the libraries compares refusals.
 pub(crate) fn alike(first: Refusal, second: Result<(), Refusal>) -> bool {
     match second {
         Ok(()) => false,

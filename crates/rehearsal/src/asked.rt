@@ -141,7 +141,8 @@ fn poke_of(line: &[u8]) -> Option<Word> {
     }
 }
 
-// The word, where the line is of its form, which has a letter for each word of the line.
+// The word, where the line is of its form, which has a letter for each word of the line: so that a name, its form and its word stand on one
+// line each.
 fn formed(line: &[u8], kinds: &[u8], word: Word) -> Option<Word> {
     let good = |(k, kind): (usize, &u8)| is_kind(part(line, b' ', k), *kind);
     let all = parts(line, b' ') == kinds.len() && kinds.iter().enumerate().all(good);

@@ -78,7 +78,8 @@ fn tell_error(rt: &impl Print, lines: u64) -> io::Result<()> {
 
 // ---- what a line does
 
-// What is told behind a line: nothing; what a call answers, and under it the record, where there is a run; a question's answer.
+// What is told behind a line, which is written first, once it is known to be good: nothing; what a call answers, and under it the record,
+// where there is a run; a question's answer.
 #[derive(Clone, Copy)]
 enum Reply {
     Plain,

@@ -85,7 +85,8 @@ fn tell_copies(rt: &impl Print, file: &[u8]) -> io::Result<()> {
     page.tell(rt)
 }
 
-// What a copy into so much of a buffer was answered, whether it is the same as the file, and whether no byte was changed.
+// What a copy into so much of a buffer was answered, whether it is the same as the file, and whether no byte was changed: looked at of a
+// refusal too.
 #[derive(Clone, Copy)]
 struct Copying {
     check: Result<(), Refusal>,

@@ -16,7 +16,7 @@ pub(crate) fn number_from_end(line: &[u8], back: usize) -> Option<u64> {
     decimal(part(line, b' ', k))
 }
 
-// Its last 32 bits.
+// Its last 32 bits: `as u32` asks for a proof that there are no more.
 pub(crate) fn low(n: u64) -> u32 {
     (n % 4_294_967_296) as u32
 }
@@ -72,6 +72,7 @@ fn four_of(text: &[u8], i: usize) -> Option<[u32; 4]> {
     ])
 }
 
+// These two are no `From`, which would have to stand in crate show, for this program alone.
 fn layout_of([longest, track, time, rotation]: [u32; 4]) -> Layout {
     Layout {
         longest,
@@ -96,7 +97,7 @@ pub(crate) fn is_hex(text: &[u8]) -> bool {
     unhex(text, &mut []).is_some()
 }
 
-// What a text spells; none of a dash.
+// What a text spells; none of a dash. An array with its length: there is no heap.
 #[derive(Clone, Copy)]
 pub(crate) struct Bytes {
     room: [u8; BYTES],

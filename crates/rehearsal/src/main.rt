@@ -28,7 +28,7 @@ use std::io::Read;
 // The longest line and its newline.
 const ROOM: usize = 65_536;
 
-// A part of the room.
+// A part of the room: a range whose bounds the proofs know.
 #[derive(Clone, Copy)]
 struct Span {
     from: usize,

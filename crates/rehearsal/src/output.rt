@@ -11,8 +11,8 @@ pub(crate) fn complain(rt: &impl Eprint, line: &str) {
     let _ = rt.eprint(line);
 }
 
-// N bytes, and where what is put on them ends. What no longer fits is not put. Forms with # are those of the library text_forms: with `Display`
-// and `write!` in their place, each text would have a `Result` to hand on, of a write to memory that does not fail.
+// N bytes, and where what is put on them ends: there is no heap. What no longer fits is not put. Forms with # are those of the library
+// text_forms: with `Display` and `write!` in their place, each text would have a `Result` to hand on, of a write to memory that does not fail.
 #[derive(Clone, Copy)]
 pub(crate) struct Page<const N: usize> {
     bytes: [u8; N],

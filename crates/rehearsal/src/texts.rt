@@ -35,7 +35,8 @@ pub(crate) fn tell_text<F: Fn(&[u8], &mut [u8]) -> Written>(
     end(rt, faults)
 }
 
-// What was answered with so much of a buffer, the buffer, and whether every byte behind the text is as it was.
+// What was answered with so much of a buffer, the buffer, and whether every byte behind the text is as it was. No `Result`: of a refusal too
+// all of it is looked at.
 #[derive(Clone, Copy)]
 struct Text {
     check: Result<(), Refusal>,

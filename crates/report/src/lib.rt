@@ -30,6 +30,7 @@ fn put_four(out: &mut [u8], at: usize, a: u64, b: u64, c: u64, d: u64) -> usize
     text::put_numbered(out, fourth, b"", d, b"\n")
 }
 
+// `explain` has one like it, and says why.
 fn put_refusal(out: &mut [u8; TEXT_MOST], why: Refusal) -> usize
     ensures { Put out.old 0 (refused_text why) out.new result }
 {
@@ -117,7 +118,8 @@ fn put_text(file: &[u8], out: &mut [u8; TEXT_MOST]) -> usize
     put_accepted(out, got.show, decision)
 }
 
-// Puts the text from the buffer's first byte on and answers its length; or 16, where the buffer would not take every text.
+// Puts the text from the buffer's first byte on and answers its length; or 16, where the buffer would not take every text. `explain` is its
+// twin in form alone.
 pub fn report(file: &[u8], buffer: &mut [u8]) -> Written
     ensures report_is { ReportIs file.now buffer.old result buffer.new }
     ensures len_in_bounds { result.len ≤ length buffer.new }

@@ -42,7 +42,8 @@ pub fn test_run(run: Run) -> Test
     }
 }
 
-// Whether the first places of an order name each of so many sessions once: each is one of them, and none was named before.
+// Whether the first places of an order name each of so many sessions once: each is one of them, and none was named before. An order is
+// sixteen places, of which the first are looked at.
 fn names_each(order: [u32; 16], playing: usize) -> bool
     requires { playing ≤ 16 }
     ensures { Tells result (NamesEach order playing) }
@@ -58,7 +59,8 @@ fn names_each(order: [u32; 16], playing: usize) -> bool
     true
 }
 
-// Whether the cycle is where it may be, once the order is known to name each session once.
+// Whether the cycle is where it may be, once the order is known to name each session once. `playing ≤ 16` and `NamesEach` are clauses of four
+// functions here: a type for an order that was tested would be taken apart again at each place that is looked up in it.
 fn is_cycle_sound(run: &Run) -> bool
     requires playing_bound { playing run.now ≤ 16 }
     requires names_each { NamesEach run.now.order (playing run.now) }

@@ -1,4 +1,4 @@
-// Numbers in a file, the lowest byte first.
+// Numbers in a file, the lowest byte first: of two bytes and of four, each by the library's own call.
 ghost use Rattle.std.specs.Prelude.{◌≡◌, ◌≤◌, length};
 ghost use Rattle.showfile.specs.Bytes.{word_of, half_of};
 

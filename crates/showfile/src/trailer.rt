@@ -22,6 +22,7 @@ pub struct Trailer {
 impl Trailer {
     pub const LENGTH: usize = 20;
 
+    // `CountsWithin` is a clause of four functions here and in showfile_write, on a trailer twice and on a show twice.
     fn distanced(self, at: usize) -> bool
         requires { CountsWithin self.laid self.playing }
         ensures { Tells result (Distanced at self) }

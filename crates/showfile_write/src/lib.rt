@@ -24,6 +24,7 @@ fn check_write(show: &Show, note: &[u8], room: usize) -> Result<(), Refusal>
     if !Show::counts_within(show.laid, show.playing) {
         return Err(Refusal::Counts);
     }
+    // As `note_within` of showfile, which no other crate calls.
     if Reading::NOTE_MOST < note.len() {
         return Err(Refusal::NoteLength);
     }

@@ -41,7 +41,7 @@ fn near(ahead: i64) -> bool
     (-4_611_686_018_427_387_904..4_611_686_018_427_387_904).contains(&ahead)
 }
 
-// Whether no two stand at one place: each is found at its own, once all are seated.
+// Whether no two stand at one place: each is found at its own, once all are seated. Sixteen places with a count, as `ordered` takes them.
 fn apart(places: [usize; 16], playing: usize) -> bool
     requires { (playing ≤ 16) × PlacedBelow places playing }
     ensures { Tells result (PlacedApart places playing) }

@@ -95,7 +95,7 @@ fn survey(run: &Run) -> Standing
     }
 }
 
-// The workahead of each session, zeros above.
+// The workahead of each session, zeros above. Within a sound run none is refused.
 fn aheads(run: &Run) -> [i64; 16]
     requires { SoundRun run.now }
     ensures { result ≡ aheads_of run.now }

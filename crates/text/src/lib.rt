@@ -87,7 +87,7 @@ fn put_bytes(out: &mut [u8], at: usize, word: &[u8]) -> usize
     end
 }
 
-// The digits of a number, backwards from where they end.
+// The digits of a number, backwards from where they end. No `Display`, as is said at `fits`.
 fn put_decimal(out: &mut [u8], at: usize, digits: usize, n: u64) -> usize
     requires fits_at { FitsAt out.old at (decimal n) }
     requires digits_value { digits ≡ length (decimal n) }

@@ -6,7 +6,7 @@ ghost use Rattle.text_forms.specs.Hex.{hex_digit, pair_text, pairs_text, hex_tex
 
 use text::put_word;
 
-// Bytes in hex, two small digits each; a dash for none.
+// Bytes in hex, two small digits each; a dash for none. No `write!`, as in crate text: what does not fit in whole is not put.
 pub fn put_hex(out: &mut [u8], at: usize, bytes: &[u8]) -> usize
     ensures out_after { out.new ≡ put_over out.old at (hex_text bytes.now) }
     ensures value { result ≡ put_to out.old at (hex_text bytes.now) }

@@ -43,7 +43,7 @@ pub fn tried(show: Show, counts: [u32; 16]) -> Trial
     }
 }
 
-// The sum of the worst times of given counts, and each of them.
+// The sum of the worst times of given counts, and each of them. Within the limits none is refused; as `takes` of verdict, which is private.
 fn added(show: &Show, counts: &[u32; 16]) -> (u64, [u64; 16])
     requires { ShowWithin show.now }
     ensures { (result.0 ≡ round_time (load_of show.now) (set_of counts.now)) × (result.1 ≡ times_of (load_of show.now) (set_of counts.now)) }

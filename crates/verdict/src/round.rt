@@ -42,7 +42,7 @@ fn end_of(show: &Show) -> u64
     end
 }
 
-// Each session's rate: in the search they lie side by side.
+// Each session's rate, in a row of its own beside what is covered and the times: stepping through the sessions takes an instruction more.
 fn rates_of(show: &Show) -> [u64; 16]
     requires { ShowWithin show.now }
     ensures { result ≡ row (load_of show.now) (rates_of show.now) }
