@@ -19,6 +19,14 @@ put_inside is was after rest n h =
     omega (arith, length-append after rest, ap length e, length-append h.text (drop (length h.text) was))
 
 module _ (is : List ℕ → Type 0) (most : ℕ) where
+  -- The text that was put is what is told.
+  pub told_put : (was after : List ℕ) (n : ℕ) → Texted is was after n → most ≤ length was → ToldIs is most was (written (Ok tt) n) after
+  told_put was after n h room =
+      let u = h.put.upto in
+      let e : n ≡ length h.text = omega arith in
+      let x : after ≡ written_over (Ok tt) h.text was = h.put.bytes ∙ over_front was h.text in
+      rw (e, x) (told h.text h.holds room)
+
   -- A text that was put into the buffer's first bytes, where these take every text, is what is told.
   pub told_front :
       ((t : List ℕ) → is t → length t ≤ most) →
