@@ -59,8 +59,8 @@ fn names_each(order: [u32; 16], playing: usize) -> bool
     true
 }
 
-// Whether the cycle is where it may be, once the order is known to name each session once. `playing ≤ 16` and `NamesEach` are clauses of four
-// functions here: a type for an order that was tested would be taken apart again at each place that is looked up in it.
+// Whether the cycle is where it may be, once the order is known to name each session once. `playing ≤ 16` is a clause of
+// four functions here, `NamesEach` of three: a type for an order that was tested would be taken apart again at each place looked up in it.
 fn is_cycle_sound(run: &Run) -> bool
     requires playing_bound { playing run.now ≤ 16 }
     requires names_each { NamesEach run.now.order (playing run.now) }
