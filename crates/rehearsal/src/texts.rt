@@ -1,14 +1,22 @@
 // The calculator's text of a file, and why it is refused, as one line: each newline is written \n.
+ghost use Rattle.std.specs.Prelude.{◌≤◌, length};
+
 use crate::answers::{Faults, end};
 use crate::files::{fill, filled};
 use crate::given::Bytes;
 use crate::output::say;
+use parse::same;
 use show::refusal::Refusal;
 use showfile::Written;
 use std::io;
 
 // Longer than any text.
 const LENT: usize = 640;
+
+// The shortest buffers that are granted.
+const _: () = prove!(1 <= report::TEXT_MOST && report::TEXT_MOST <= LENT);
+
+const _: () = prove!(1 <= explain::TEXT_MOST && explain::TEXT_MOST <= LENT);
 
 // Asked three times: with a long buffer, with one that is just long enough, and with one that is a byte too short, which is refused.
 // `least`: the shortest buffer that is granted.
@@ -27,11 +35,11 @@ pub(crate) fn tell_text<F: Fn(&[u8], &mut [u8]) -> Written>(
     let faults = Faults {
         refused: long.check.is_err(),
         changed: !long.kept || !short.kept,
-        differs: long.len != just.len || long.buffer != just.buffer,
+        differs: long.len != just.len || !same(&long.buffer, &just.buffer),
         granted: short.len != 0 || !matches!(short.check, Err(Refusal::BufferShort)),
         ..Faults::default()
     };
-    tell_lines(rt, &long.buffer[..long.len.min(LENT)])?;
+    tell_lines(rt, &long.buffer[..long.len])?;
     end(rt, faults)
 }
 
@@ -45,16 +53,19 @@ struct Text {
     kept: bool,
 }
 
+// No text is longer than its buffer, as the contracts of both calls say; of a call that is lent nothing is known.
 fn asked_in<F: Fn(&[u8], &mut [u8]) -> Written>(ask: &F, file: &[u8], room: usize) -> Text
     requires { F.IsAlwaysCallable ask.now }
+    ensures { result.len ≤ length result.buffer }
 {
     let mut buffer = [0u8; LENT];
     fill(&mut buffer);
     let wrote = ask(file, &mut buffer[..room.min(LENT)]);
+    let len = wrote.len.min(LENT);
     Text {
         check: wrote.check,
-        len: wrote.len,
-        kept: filled(&buffer, wrote.len),
+        len,
+        kept: filled(&buffer, len),
         buffer,
     }
 }
