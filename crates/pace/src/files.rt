@@ -49,13 +49,14 @@ fn report(file: &[u8]) -> u64 {
 
 // ---- what is written
 
-// The lowest bit of the cylinder is as it was or turned, by turns: where the show lies, since a show that is handed on is copied.
-pub(crate) fn writes(mut show: Show, note: &[u8], turns: u64) -> u64 {
-    let first = show.drive.cylinder;
-    over(turns, |k| {
-        show.drive.cylinder = first ^ odd(k) as u32;
-        write(show, note)
-    })
+pub(crate) fn writes(show: Show, note: &[u8], turns: u64) -> u64 {
+    over(turns, |k| write(shifted(show, k), note))
+}
+
+// The show of turn k: the lowest bit of its cylinder is as it was or turned, by turns.
+fn shifted(mut show: Show, k: u64) -> Show {
+    show.drive.cylinder ^= odd(k) as u32;
+    show
 }
 
 fn write(show: Show, note: &[u8]) -> u64 {
