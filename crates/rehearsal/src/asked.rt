@@ -79,10 +79,12 @@ pub(crate) enum Word {
 }
 
 // What a line may begin with, and what may be poked.
-const WORDS: &[u8] = b"case policy end show memory junk open save back poke choose slack start pass finish workahead take decide why load worst \
+const WORDS: &[u8] =
+    b"case policy end show memory junk open save back poke choose slack start pass finish workahead take decide why load worst \
     try write file report explain player";
 
-const FIELDS: &[u8] = b"started place left under A N lc sc l.far l.one l.blk l.rot s.R s.Y s.B s.lay M P G C O";
+const FIELDS: &[u8] =
+    b"started place left under A N lc sc l.far l.one l.blk l.rot s.R s.Y s.B s.lay M P G C O";
 
 // Which of the names a word is; nothing where it is none of them.
 fn name_of<'a>(names: &'a [u8], word: &[u8]) -> &'a [u8] {
