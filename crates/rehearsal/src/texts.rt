@@ -13,11 +13,6 @@ use std::io;
 // Longer than any text.
 const LENT: usize = 640;
 
-// The shortest buffers that are granted.
-const _: () = prove!(1 <= report::TEXT_MOST && report::TEXT_MOST <= LENT);
-
-const _: () = prove!(1 <= explain::TEXT_MOST && explain::TEXT_MOST <= LENT);
-
 // Asked three times: with a long buffer, with one that is just long enough, and with one that is a byte too short, which is refused.
 // `least`: the shortest buffer that is granted.
 pub(crate) fn tell_text<F: Fn(&[u8], &mut [u8]) -> Written>(
@@ -26,12 +21,13 @@ pub(crate) fn tell_text<F: Fn(&[u8], &mut [u8]) -> Written>(
     least: usize,
     hex: &[u8],
 ) -> io::Result<()>
-    requires { F.IsAlwaysCallable ask }
+    requires callable { F.IsAlwaysCallable ask }
+    requires room { (1 ≤ least) × (least ≤ 640) }
 {
     let file = Bytes::of(hex);
     let long = asked_in(&ask, file.as_slice(), LENT);
     let just = asked_in(&ask, file.as_slice(), least);
-    let short = asked_in(&ask, file.as_slice(), least.saturating_sub(1));
+    let short = asked_in(&ask, file.as_slice(), least - 1);
     let faults = Faults {
         refused: long.check.is_err(),
         changed: !long.kept || !short.kept,
@@ -55,12 +51,13 @@ struct Text {
 
 // No text is longer than its buffer, as the contracts of both calls say; of a call that is lent nothing is known.
 fn asked_in<F: Fn(&[u8], &mut [u8]) -> Written>(ask: &F, file: &[u8], room: usize) -> Text
-    requires { F.IsAlwaysCallable ask.now }
+    requires callable { F.IsAlwaysCallable ask.now }
+    requires room { room ≤ 640 }
     ensures { result.len ≤ length result.buffer }
 {
     let mut buffer = [0u8; LENT];
     fill(&mut buffer);
-    let wrote = ask(file, &mut buffer[..room.min(LENT)]);
+    let wrote = ask(file, &mut buffer[..room]);
     let len = wrote.len.min(LENT);
     Text {
         check: wrote.check,
