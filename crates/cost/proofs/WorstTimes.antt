@@ -34,6 +34,17 @@ module _ (c : Cost) (N n : ℕ) where
   unfolding takes_of
   takes_known b l = rw (unless_kept (between? 1 N 65536) DriveLimits b, unless_kept (limited? c) (LayoutLimits 0) l)
 
+  -- So within the limits a time that is answered is U, and nothing is refused.
+  module _ (b : Between 1 N 65536) (l : Limited c) where
+    pub takes_is : {t : ℕ} → takes_of c N n ≡ Ok t → t ≡ worst_time N c n
+    takes_is {t} e = let g : Ok t ≡ Ok (worst_time N c n) = sym e ∙ takes_known b l in cc
+
+    pub takes_granted : {w : Refusal} {X : Type 0} → takes_of c N n ≡ Err w → X
+    takes_granted {w} e =
+        let g : Err w ≡ Ok (worst_time N c n) = sym e ∙ takes_known b l in
+        let z : ◌≡◌ {A = ℕ} 0 1 = cc in
+        absurd (let f : ⊥ = omega arith in f)
+
 module _ (s : Show) (i n : ℕ) where
   pub worst_refused : {w : Refusal} → show_check s ≡ Err w → worst_of s i n ≡ Err w
   unfolding worst_of

@@ -12,7 +12,7 @@ mod shows;
 mod sums;
 
 use input::read_all;
-use parse::{part, parts};
+use parse::{part, parts, same};
 use parse_numbers::{decimal, unhex};
 use run::Run;
 use show::Show;
@@ -71,7 +71,7 @@ fn turns_of(text: &[u8]) -> Option<u64> {
 
 // How many bytes the text spells, which then stand in `out` as far as it has room; nothing where it spells none.
 fn bytes_of(text: &[u8], out: &mut [u8]) -> Option<usize> {
-    if text == b"-".as_slice() {
+    if same(text, b"-") {
         return Some(0);
     }
     // `unhex` takes capital letters too.

@@ -16,13 +16,21 @@ pub fn find(text: &[u8], mark: u8) -> usize
 }
 
 // How many parts the marks make of the text: one more than there are marks.
+// A `for` and no chain: `filter` and `count` take nearly twice the instructions a byte.
 pub fn parts(text: &[u8], mark: u8) -> usize
     ensures { result ≡ parts_of mark text.now }
 {
-    1 + text.iter().filter(|b| **b == mark).count()
+    let mut n = 1;
+    for b in text {
+        if *b == mark {
+            n += 1;
+        }
+    }
+    n
 }
 
 // Part k of the text, counted from 0, with `mark` between two parts; nothing where there are fewer.
+#[tactic(auto, using(crate::proofs::PartLaws::part_none))]
 pub fn part(text: &[u8], mark: u8, k: usize) -> &[u8]
     ensures { result.now ≡ part_of mark k text.now }
 {

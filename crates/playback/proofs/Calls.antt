@@ -15,9 +15,11 @@ use Rattle.state.specs.State.{no_state, drawn}
 use Rattle.run.specs.declared.Run.{Run}
 use Rattle.run.specs.Run.{span_most, playing, state_at, clip_at, left_at, PutAt, with_states, with_cycle}
 use Rattle.run.specs.Answers.{moved}
+use Rattle.run.specs.Seats.{Seated}
 use Rattle.run.specs.Sound.{SoundRun}
 use Rattle.run.specs.Steps.{states_after, passed, drawn_at, stored, landed}
 use Rattle.run.proofs.Steps.{passed_sound, read_below}
+use Rattle.run.proofs.Seats.{sound_seated}
 use Rattle.run.proofs.Answered.{damaged_first, sound_then}
 use Rattle.player.specs.declared.Drawn.{Drawn}
 use Rattle.player.specs.Answers.{take_check as players_check, drawn_by, drawn_of}
@@ -112,9 +114,13 @@ module _ (r : Run) (d : ℕ) where
       finish_counted i l p fresh n e f g k h =
           finish_granted i (with_states r l) _ e (advanced r d l f) (counts_off (stored (with_states r l) i) p g n (h ∙ ap (counted_off r.left) k))
 
--- A session under way is one of sixteen.
-pub read_few : (r : Run) → SoundRun r → (i : ℕ) → r.underway ≡ Some i → i < 16
-read_few r s i e = let b = read_below r s i e in let n = s.within.counts.sessions in omega arith
+-- A session under way is one of sixteen, and the cycle is somewhere.
+module _ (r : Run) (s : SoundRun r) (i : ℕ) (e : r.underway ≡ Some i) where
+  pub read_few : i < 16
+  read_few = let b = read_below r s i e in let n = s.within.counts.sessions in omega arith
+
+  pub read_seated : Seated r
+  read_seated = sound_seated r s (let b = read_below r s i e in omega arith)
 
 -- The read under way is still under way after d µs.
 pub passed_reads :

@@ -1,3 +1,4 @@
 pub mod Cycles
+pub mod Clocks
 pub mod Calls
 pub mod Laws

@@ -2,13 +2,15 @@
 use Rattle.std.specs.Prelude.{Ok, Err, true, false}
 use Prim.Native.Nat.{ℕ, ◌+◌, ◌≤◌, ◌<◌}
 use mathlib.Core.Path.{◌≡◌, refl}
-use mathlib.Core.List.{List}
+use mathlib.Core.List.{List, [], ◌∷◌}
 use mathlib.Core.Logic.Dec
 use native.Mathlib.Omega.{arith}
 use native.Mathlib.Nat.{le_of_lt}
 use native.Mathlib.Decide.{dec_le}
-use lib.ListN.{length}
+use lib.ListN.{length, get_or}
 use Rattle.show.specs.Outcomes.{Check}
+use Rattle.show.specs.declared.Layout.{Layout}
+use Rattle.show.specs.declared.Session.{Session}
 use Rattle.show.specs.declared.Show.{Show}
 use Rattle.show.specs.declared.refusal.Refusal.TheVariants.{NoSet, BufferShort}
 use Rattle.show.specs.Limits.{ShowWithin}
@@ -23,6 +25,8 @@ use Rattle.theory.proofs.Rounds.{round_grows, time_accepts, accepted_has_least, 
 use Rattle.theory.proofs.Shows.{show_sound, feasible_few}
 use Rattle.showfile.specs.declared.Written.{Written}
 use Rattle.showfile.specs.Answers.{read_of, written, written_over}
+use Rattle.showfile.specs.File.{layout_of, layout_bytes, session_of, session_bytes}
+use Rattle.showfile.specs.Rows.{words_of, bytes_of}
 use Rattle.showfile.proofs.Readable.{read_within}
 use Rattle.verdict.specs.declared.Decision.{Decision}
 use Rattle.trial.specs.declared.Trial.{Trial}
@@ -40,6 +44,24 @@ use Rattle.explain.specs.Text.{reason_text, refusal_text}
 use Rattle.explain.specs.Answers.{SaidIs, because, said_most}
 use Rattle.explain.specs.Answers as saying
 use Rattle.promises.specs.Answered.{Answered}
+
+-- ---- records of a file
+
+layout_from : (w : List ℕ) → (y : Layout) × ((s : List ℕ) → w ≡ words_of s → y ≡ layout_of s)
+unfolding layout_of
+layout_from w = (record { longest = get_or w 0 0; track = get_or w 1 0; time = get_or w 2 0; rotation = get_or w 3 0 }, λ s e. rw e refl)
+
+session_from : (w : List ℕ) → (x : Session) × ((s : List ℕ) → w ≡ words_of s → x ≡ session_of s)
+unfolding session_of
+session_from w = (record { rate = get_or w 0 0; cushion = get_or w 1 0; buffer = get_or w 2 0; layout = get_or w 3 0 }, λ s e. rw e refl)
+
+layout_words : (y : Layout) → (w : List ℕ) × (layout_bytes y ≡ bytes_of w)
+unfolding layout_bytes
+layout_words y = (y.longest ∷ y.track ∷ y.time ∷ y.rotation ∷ [], refl)
+
+session_words : (x : Session) → (w : List ℕ) × (session_bytes x ≡ bytes_of w)
+unfolding session_bytes
+session_words x = (x.rate ∷ x.cushion ∷ x.buffer ∷ x.layout ∷ [], refl)
 
 -- ---- verdicts
 
@@ -134,6 +156,10 @@ module _ (f : List ℕ) where
 pub answered : Answered
 answered =
     record {
+      layout_from = layout_from;
+      session_from = session_from;
+      layout_words = layout_words;
+      session_words = session_words;
       deciding = decided;
       trying = tried;
       opening = λ s.

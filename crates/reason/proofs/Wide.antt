@@ -1,6 +1,6 @@
 -- The show with the largest buffers: within the limits, and the load with the largest buffers. Assumes nothing.
 use Prim.Native.Nat.{ℕ, ◌+◌, ◌≤◌, ◌<◌}
-use mathlib.Core.Path.{◌≡◌, refl, sym}
+use mathlib.Core.Path.{◌≡◌, refl, sym, ◌∙◌, ap}
 use mathlib.Core.List.{List}
 use native.Mathlib.Omega.{arith}
 use lib.ListN.{set}
@@ -31,6 +31,14 @@ wide_body s w sessions i x h l e =
       inside = omega arith;
       row = rw (h.row, e) (filled_more 16 no_session (λ k. roomy (session_at s k)) i (let n = w.counts.sessions in omega arith));
     }
+
+pub wide_ended :
+    (s : Show) (sessions : List Session) (i : ℕ) → WideTo s sessions i → s.playing ≤ i →
+    record { drive = s.drive; layouts = s.layouts; laid = s.laid; sessions = sessions; playing = s.playing } ≡ widest_of s
+wide_ended s sessions i h l =
+    ap
+    (λ (x : List Session). record { drive = s.drive; layouts = s.layouts; laid = s.laid; sessions = x; playing = s.playing })
+    (h.row ∙ ap (λ (n : ℕ). padded 16 no_session (listed (λ k. roomy (session_at s k)) n)) (let a = h.inside in omega arith))
 
 -- ---- what it is
 

@@ -1,6 +1,6 @@
 // What a line asks for. The words of a line have one space between.
 use crate::given::{BYTES, counts_of, is_hex, low, memory_of, number_from_end};
-use parse::{part, parts};
+use parse::{part, parts, place_in, same};
 use parse_numbers::decimal;
 
 // A call on the run, with its µs, its session or its session and bytes.
@@ -78,11 +78,24 @@ pub(crate) enum Word {
     Given(Given),
 }
 
+// What a line may begin with, and what may be poked.
+const WORDS: &[u8] =
+    b"case policy end show memory junk open save back poke choose slack start pass finish workahead take decide why load worst \
+    try write file report explain player";
+
+const FIELDS: &[u8] =
+    b"started place left under A N lc sc l.far l.one l.blk l.rot s.R s.Y s.B s.lay M P G C O";
+
+// Which of the names a word is; nothing where it is none of them.
+fn name_of<'a>(names: &'a [u8], word: &[u8]) -> &'a [u8] {
+    part(names, b' ', place_in(names, word))
+}
+
 // None: the line is malformed.
 pub(crate) fn asked_of(line: &[u8]) -> Option<Word> {
     let last = number_from_end(line, 1).unwrap_or(0);
     let session = number_from_end(line, 2).unwrap_or(0) as usize;
-    match part(line, b' ', 0) {
+    match name_of(WORDS, part(line, b' ', 0)) {
         b"case" => formed(line, b".a", Word::Case),
         b"policy" => formed(line, b".f", Word::Policy),
         b"end" => formed(line, b".", Word::End),
@@ -115,7 +128,7 @@ pub(crate) fn asked_of(line: &[u8]) -> Option<Word> {
 }
 
 fn poke_of(line: &[u8]) -> Option<Word> {
-    match part(line, b' ', 1) {
+    match name_of(FIELDS, part(line, b' ', 1)) {
         b"started" => formed(line, b"..b", Word::Poke(Field::Started)),
         b"place" => formed(line, b"..w", Word::Poke(Field::Place)),
         b"left" => formed(line, b"..w", Word::Poke(Field::Left)),
@@ -152,11 +165,11 @@ fn formed(line: &[u8], kinds: &[u8], word: Word) -> Option<Word> {
 // `.` any word, `a` a name, `f` the policy, `c` counts, `h` hex, `m` a show in memory, `n` a note; others are numbers: `b` yes or no,
 // `e` a layout, `i` a session, `r` the room of a buffer, `u` a read under way, `w` 32 bits, `l` 64 bits.
 fn is_kind(text: &[u8], kind: u8) -> bool {
-    let dash = matches!(text, b"-");
+    let dash = same(text, b"-");
     match kind {
         b'.' => true,
         b'a' => !text.is_empty(),
-        b'f' => matches!(text, b"fixed"),
+        b'f' => same(text, b"fixed"),
         b'c' => dash || counts_of(text).is_some(),
         b'h' => dash || is_hex(text),
         b'n' => dash || text.len() <= 2 * BYTES && is_hex(text),
@@ -165,7 +178,7 @@ fn is_kind(text: &[u8], kind: u8) -> bool {
         b'e' => is_number(text, 7),
         b'i' => is_number(text, 15),
         b'r' => is_number(text, BYTES as u64),
-        b'u' => matches!(text, b"-1") || is_number(text, 4_294_967_295),
+        b'u' => same(text, b"-1") || is_number(text, 4_294_967_295),
         b'w' => is_number(text, 4_294_967_295),
         _ => is_number(text, u64::MAX),
     }

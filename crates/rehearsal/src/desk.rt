@@ -8,7 +8,7 @@ use crate::output::{Page, say};
 use crate::questions::{about_given, about_show};
 use crate::record::tell_record;
 use crate::shows::{junked, read_show};
-use parse::part;
+use parse::{part, same};
 use run::Run;
 use show::Show;
 use show::refusal::Refusal;
@@ -52,7 +52,7 @@ impl Desk {
 // The desk after a line.
 pub(crate) fn line(rt: &impl Print, bytes: &[u8], desk: Desk) -> io::Result<Desk> {
     let lines = desk.lines.wrapping_add(1);
-    if matches!(desk.stage, Stage::Over) && !matches!(part(bytes, b' ', 0), b"case") {
+    if matches!(desk.stage, Stage::Over) && !same(part(bytes, b' ', 0), b"case") {
         return Ok(Desk { lines, ..desk });
     }
     let Some(step) = step_of(bytes, desk.stage) else {

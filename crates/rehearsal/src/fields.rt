@@ -15,7 +15,11 @@ pub(crate) fn poke(run: Run, field: Field, line: &[u8]) -> Run {
         Field::Started => next.started = value == 1,
         Field::Place => next.place = value as usize,
         Field::Left => next.left = n,
-        Field::Under => next.underway = number.map(|session| session as usize),
+        Field::Under => next = run.with_cycle(
+            run.place,
+            run.left,
+            number.map(|session| session as usize),
+        ),
         Field::Block => next.show.drive.block = n,
         Field::Cylinder => next.show.drive.cylinder = n,
         Field::Laid => next.show.laid = value as usize,

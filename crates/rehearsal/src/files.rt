@@ -2,6 +2,7 @@
 use crate::answers::{Answer, Faults, alike, tell_faulty, tell_show, told_of};
 use crate::given::{BYTES, Bytes};
 use crate::output::Page;
+use parse::same;
 use show::Show;
 use show::refusal::Refusal;
 use showfile_copy::{copy, reread};
@@ -106,7 +107,7 @@ fn copied_in(file: &[u8], buffer: &mut [u8]) -> Copying {
     Copying {
         check: wrote.check,
         len: wrote.len,
-        same: &*buffer == file,
+        same: same(buffer, file),
         kept: filled(buffer, 0),
     }
 }

@@ -21,55 +21,48 @@ pub(crate) fn low(n: u64) -> u32 {
     (n % 4_294_967_296) as u32
 }
 
-// Number k of 32 bits, with commas between.
-fn number_in(text: &[u8], k: usize) -> Option<u32> {
-    u32::try_from(decimal(part(text, b',', k))?).ok()
+// A number of 32 bits.
+fn word_of(text: &[u8]) -> Option<u32> {
+    u32::try_from(decimal(text)?).ok()
 }
 
-// Sixteen counts at most; zeros where none is given.
+// Sixteen counts at most, with commas between; zeros where none is given.
 pub(crate) fn counts_of(text: &[u8]) -> Option<[u32; 16]> {
-    let n = parts(text, b',');
     let mut counts = [0u32; 16];
-    if 16 < n {
-        return None;
-    }
-    for k in 0..n {
-        counts[k] = number_in(text, k)?;
+    for (k, count) in text.split(|b| *b == b',').enumerate() {
+        *counts.get_mut(k)? = word_of(count)?;
     }
     Some(counts)
 }
 
 // ---- a show in memory: a hundred numbers in fours, a semicolon between fours: the drive and the counts, eight layouts, sixteen sessions
 
+// One pass over the text: `part` would go over it from its start for each four.
 pub(crate) fn memory_of(text: &[u8]) -> Option<Show> {
-    if parts(text, b';') != 25 {
-        return None;
-    }
-    let [block, cylinder, laid, playing] = four_of(text, 0)?;
+    let mut fours = text.split(|b| *b == b';');
+    let [block, cylinder, laid, playing] = four_of(fours.next()?)?;
     let mut show = Show::nothing();
     show.drive = Drive { block, cylinder };
     show.laid = laid as usize;
     show.playing = playing as usize;
     for i in 0..8 {
-        show.layouts[i] = layout_of(four_of(text, 1 + i)?);
+        show.layouts[i] = layout_of(four_of(fours.next()?)?);
     }
     for i in 0..16 {
-        show.sessions[i] = session_of(four_of(text, 9 + i)?);
+        show.sessions[i] = session_of(four_of(fours.next()?)?);
     }
-    Some(show)
+    fours.next().is_none().then_some(show)
 }
 
-fn four_of(text: &[u8], i: usize) -> Option<[u32; 4]> {
-    let four = part(text, b';', i);
-    if parts(four, b',') != 4 {
-        return None;
-    }
-    Some([
-        number_in(four, 0)?,
-        number_in(four, 1)?,
-        number_in(four, 2)?,
-        number_in(four, 3)?,
-    ])
+fn four_of(text: &[u8]) -> Option<[u32; 4]> {
+    let mut words = text.split(|b| *b == b',');
+    let four = [
+        word_of(words.next()?)?,
+        word_of(words.next()?)?,
+        word_of(words.next()?)?,
+        word_of(words.next()?)?,
+    ];
+    words.next().is_none().then_some(four)
 }
 
 // These two are no `From`, which would have to stand in crate show, for this program alone.

@@ -16,7 +16,7 @@ mod record;
 mod shows;
 mod texts;
 
-ghost use Rattle.std.specs.Prelude.{◌≤◌};
+ghost use Rattle.std.specs.Prelude.{◌≡◌, ◌≤◌, Some};
 
 use crate::desk::{Desk, line};
 use crate::output::complain;
@@ -144,7 +144,10 @@ fn read_on<R: Read>(
 }
 
 // All that is held is a line, but for none.
-fn last(held: Span, rest: bool, more: bool) -> Turn {
+fn last(held: Span, rest: bool, more: bool) -> Turn
+    ensures line { (s : Span) → result.line ≡ Some s → s.to ≤ held.to }
+    ensures held { result.held.to ≤ held.to }
+{
     Turn {
         line: (!rest && held.to != 0).then_some(held),
         held: Span { from: 0, to: 0 },

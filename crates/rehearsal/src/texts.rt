@@ -1,8 +1,11 @@
 // The calculator's text of a file, and why it is refused, as one line: each newline is written \n.
+ghost use Rattle.std.specs.Prelude.{◌≤◌, length};
+
 use crate::answers::{Faults, end};
 use crate::files::{fill, filled};
 use crate::given::Bytes;
 use crate::output::say;
+use parse::same;
 use show::refusal::Refusal;
 use showfile::Written;
 use std::io;
@@ -18,20 +21,21 @@ pub(crate) fn tell_text<F: Fn(&[u8], &mut [u8]) -> Written>(
     least: usize,
     hex: &[u8],
 ) -> io::Result<()>
-    requires { F.IsAlwaysCallable ask }
+    requires callable { F.IsAlwaysCallable ask }
+    requires room { (1 ≤ least) × (least ≤ 640) }
 {
     let file = Bytes::of(hex);
     let long = asked_in(&ask, file.as_slice(), LENT);
     let just = asked_in(&ask, file.as_slice(), least);
-    let short = asked_in(&ask, file.as_slice(), least.saturating_sub(1));
+    let short = asked_in(&ask, file.as_slice(), least - 1);
     let faults = Faults {
         refused: long.check.is_err(),
         changed: !long.kept || !short.kept,
-        differs: long.len != just.len || long.buffer != just.buffer,
+        differs: long.len != just.len || !same(&long.buffer, &just.buffer),
         granted: short.len != 0 || !matches!(short.check, Err(Refusal::BufferShort)),
         ..Faults::default()
     };
-    tell_lines(rt, &long.buffer[..long.len.min(LENT)])?;
+    tell_lines(rt, &long.buffer[..long.len])?;
     end(rt, faults)
 }
 
@@ -45,16 +49,20 @@ struct Text {
     kept: bool,
 }
 
+// No text is longer than its buffer, as the contracts of both calls say; of a call that is lent nothing is known.
 fn asked_in<F: Fn(&[u8], &mut [u8]) -> Written>(ask: &F, file: &[u8], room: usize) -> Text
-    requires { F.IsAlwaysCallable ask.now }
+    requires callable { F.IsAlwaysCallable ask.now }
+    requires room { room ≤ 640 }
+    ensures { result.len ≤ length result.buffer }
 {
     let mut buffer = [0u8; LENT];
     fill(&mut buffer);
-    let wrote = ask(file, &mut buffer[..room.min(LENT)]);
+    let wrote = ask(file, &mut buffer[..room]);
+    let len = wrote.len.min(LENT);
     Text {
         check: wrote.check,
-        len: wrote.len,
-        kept: filled(&buffer, wrote.len),
+        len,
+        kept: filled(&buffer, len),
         buffer,
     }
 }

@@ -1,13 +1,11 @@
 -- A run that is opened is sound, and is of the show given. Assumes nothing.
 use Rattle.std.specs.Prelude.{Ok, Err}
-use Prim.Native.Nat.{ℕ, zero, suc, ◌+◌, ◌-◌, ◌≤◌, ◌<◌}
+use Prim.Native.Nat.{ℕ, ◌≤◌, ◌<◌}
 use mathlib.Core.Path.{◌≡◌, refl, sym, ap, subst, ◌∙◌}
 use mathlib.Core.Bool.{Bool}
 use mathlib.Core.List.{List}
-use native.Mathlib.Numerals.{add-one}
 use native.Mathlib.Omega.{arith}
-use Rattle.std.proofs.lemmas.List.{replicate_more, replicate-append-replicate}
-use lib.ListN.{length, replicate, get_or, length-append, length-replicate}
+use lib.ListN.{length, get_or, length-append, length-replicate}
 use Rattle.show.specs.Outcomes.{Check}
 use Rattle.show.specs.declared.Session.{Session}
 use Rattle.show.specs.declared.Show.{Show}
@@ -44,18 +42,6 @@ table_names n =
     apart_names (table_order n) n (λ k l. rw (table_at n k l) l) (λ j k a b e. sym (table_at n j a) ∙ e ∙ table_at n k b)
 
 -- ---- the first states
-
--- All sessions begin alike, and as the places above.
-pub all_begin : (s : Show) → s.playing ≤ 16 → replicate 16 no_state ≡ first_states s
-unfolding padded listed
-all_begin s h =
-    let l = listed_length (λ (i : ℕ). first_state (session_at s i)) s.playing in
-    let e : s.playing + (16 - s.playing) ≡ 16 = omega arith in
-    rw (alike s.playing, length-replicate, replicate-append-replicate, e)
-  where
-    alike : (n : ℕ) → listed (λ i. first_state (session_at s i)) n ≡ replicate n no_state
-    alike zero = refl
-    alike (suc n) = rw (alike n, replicate_more) (ap (λ (k : ℕ). replicate k no_state) (add-one n))
 
 pub first_state_at : (s : Show) (i : ℕ) → i < s.playing → get_or (first_states s) i no_state ≡ first_state (session_at s i)
 first_state_at s i l = filled_at 16 no_state (λ i. first_state (session_at s i)) s.playing i no_state l

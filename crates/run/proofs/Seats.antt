@@ -21,6 +21,9 @@ module _ (r : Run) (h : Seated r) where
   pub onward_in : (k : ℕ) → onward r k < playing r
   onward_in k = onward_below r k h.some.low
 
+  pub onward_few : (k : ℕ) → onward r k < 16
+  onward_few k = let b = onward_in k in let n = h.some.high in omega arith
+
   pub seat_few : (k : ℕ) → k < playing r → seat_at r k < 16
   seat_few k l = let b = h.seats k l in let n = h.some.high in omega arith
 

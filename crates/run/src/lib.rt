@@ -2,11 +2,12 @@
 #![tactic(auto)]
 
 ghost use Rattle.std.specs.Prelude.{◌≡◌, ◌≤◌};
+ghost use Rattle.state.specs.State.{first_state};
 ghost use Rattle.run.specs.Run.{left_in, with_cycle};
 ghost use Rattle.run.specs.Opening.{OpenIs, table_order, first_run, no_run};
 
-use show::Show;
 use show::refusal::Refusal;
+use show::{Session, Show};
 use state::State;
 use verdict::decide;
 
@@ -85,22 +86,37 @@ pub fn open(show: Show) -> Opened
     }
 }
 
-// Each session empty and its clock at 0, nothing under way, and an operation to begin at the first place.
-#[tactic(auto, using(crate::proofs::Begins::all_begin), unfolding(crate::specs::Opening::first_run))]
+// A session begins empty, its clock at 0.
+fn first_state(session: Session) -> State
+    ensures { result ≡ first_state session }
+{
+    State {
+        put: 0,
+        taken: 0,
+        clock: 0,
+    }
+}
+
+// Each session in its first state, and zeros above; nothing under way, and an operation to begin at the first place.
+#[tactic(auto, unfolding(crate::specs::Opening::first_run))]
 fn first_run(show: Show, counts: [u32; 16]) -> Run
     requires { show.playing ≤ 16 }
     ensures { result ≡ first_run show counts }
 {
     let order = table_order(show.playing);
-    let empty = State {
+    let none = State {
         put: 0,
         taken: 0,
         clock: 0,
     };
+    let mut states = [none; 16];
+    for i in 0..show.playing {
+        states[i] = first_state(show.sessions[i]);
+    }
     Run {
         show,
         counts,
-        states: [empty; 16],
+        states,
         order,
         place: 0,
         left: left_in(counts, order, 0),

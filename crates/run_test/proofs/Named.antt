@@ -14,6 +14,7 @@ use Rattle.state.proofs.States.{true_false}
 
 -- Of the first k places, which name sessions, no two the same: a session is marked exactly if one of them names it.
 pub record NamedTo (o : List ℕ) (n : ℕ) (named : List Bool) (k : ℕ) : Type 0 where
+  pub inside : k ≤ n
   pub sized : length named ≡ 16
   pub below : (j : ℕ) → j < k → get_or o j 0 < n
   pub apart : (i j : ℕ) → i < k → j < k → get_or o i 0 ≡ get_or o j 0 → i ≡ j
@@ -32,6 +33,7 @@ module _ (o : List ℕ) (n : ℕ) where
   pub named_none : NamedTo o n (replicate 16 false) 0
   named_none =
       record {
+        inside = omega arith;
         sized = length-replicate 16 false;
         below = λ j l. absurd (let f : ⊥ = omega arith in f);
         apart = λ i j l. absurd (let f : ⊥ = omega arith in f);
@@ -80,6 +82,7 @@ module _ (o : List ℕ) (n : ℕ) where
       pub named_more : NamedTo o n marks (k + 1)
       named_more =
           record {
+            inside = omega arith;
             sized = length-set named (get_or o k 0) true ∙ h.sized;
             below = below_more _ k h.below b;
             apart = λ i j p q e. apart_more i j p q e (dec_lt i k) (dec_lt j k);

@@ -1,11 +1,13 @@
 -- The test of a run record, part by part. Assumes nothing.
 use Rattle.std.specs.Prelude.{Ok, Err, Result}
 use Rattle.std.specs.Result.{result_unwrap_or}
-use Prim.Native.Nat.{ℕ}
+use Prim.Native.Nat.{ℕ, ◌+◌, ◌≤◌, ◌<◌}
 use mathlib.Core.Path.{◌≡◌, refl, sym, ap, ◌∙◌}
 use mathlib.Core.Bool.{Bool, true, false}
 use mathlib.Core.List.{List}
 use mathlib.Core.Logic.{if_pos, if_neg}
+use native.Mathlib.Omega.{arith}
+use borrow.Author.Count.{below_more}
 use Rattle.show.specs.declared.Show.{Show}
 use Rattle.show.specs.declared.refusal.Refusal.{Refusal}
 use Rattle.show.specs.Limits.{ShowWithin}
@@ -15,8 +17,10 @@ use Rattle.trial.specs.declared.Trial.{Trial}
 use Rattle.verdict.specs.Answers.{set_of}
 use Rattle.trial.specs.Answers.{TrialIs, holds, fails, untried}
 use Rattle.verdict.proofs.Once.{within_outside}
+use Rattle.state.specs.State.{StateSound}
 use Rattle.run.specs.declared.Run.{Run}
-use Rattle.run.specs.Sound.{SoundRun}
+use Rattle.run.specs.Run.{playing, clip_at, state_at}
+use Rattle.run.specs.Sound.{StatesSound, SoundRun}
 use Rattle.run.specs.Decisions.{sound?}
 use Rattle.run_test.specs.declared.Test.{Test}
 use Rattle.run_test.specs.declared.Test.TheVariants as test
@@ -43,6 +47,22 @@ module _ (s : Show) (m : List ℕ) where
   trial_bad t (holds w g) n v k = n refl
   trial_bad t (fails w b) n v k = b k
   trial_bad t (untried w out) n v k = within_outside s w v out
+
+-- ---- the states
+
+pub record StatesTo (r : Run) (i : ℕ) : Type 0 where
+  pub inside : i ≤ playing r
+  pub sound : (k : ℕ) → k < i → StateSound r.started (clip_at r k) (state_at r k)
+
+module _ (r : Run) where
+  pub states_none : StatesTo r 0
+  states_none = record { inside = omega arith; sound = λ k l. absurd (let f : ⊥ = omega arith in f) }
+
+  pub states_more : (i : ℕ) → StatesTo r i → i < playing r → StateSound r.started (clip_at r i) (state_at r i) → StatesTo r (i + 1)
+  states_more i h l g = record { inside = omega arith; sound = below_more _ i h.sound g }
+
+  pub states_all : (i : ℕ) → StatesTo r i → playing r ≤ i → StatesSound r
+  states_all i h l k m = h.sound k (omega arith)
 
 -- ---- the answer
 

@@ -32,6 +32,10 @@ module _ (r : Run) where
       unfolding choose_check
       free = by_check (Ok tt) (sound_then r _ s ∙ ap free_check e)
 
+      pub choose_empty : playing r ≡ 0 → chosen choice.Idle r ≡ choose_of r
+      unfolding next_of
+      choose_empty z = sym (if_pos (ℕ_discrete (playing r) 0) z _ _) ∙ free
+
       module _ (z : playing r ≡ 0 → ⊥) where
         pub choose_idle : (q : Run) → playing r ≤ skipped r → q ≡ idled r → chosen choice.Idle q ≡ choose_of r
         unfolding next_of

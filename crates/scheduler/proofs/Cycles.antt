@@ -1,6 +1,7 @@
 -- Who is skipped, and where choose arrives, as the code finds it. Assumes nothing.
 use Prim.Native.Nat.{ℕ, ◌+◌, ◌-◌, ◌≤◌, ◌<◌}
 use mathlib.Core.Path.{◌≡◌, sym, ap, ◌∙◌}
+use native.Mathlib.Omega.{arith}
 use Rattle.run.specs.declared.Run.{Run}
 use Rattle.run.specs.Run.{playing, seat_at, left_at, onward, RoomAt}
 use Rattle.run.specs.Decisions.{room?}
@@ -12,22 +13,23 @@ use Rattle.scheduler.specs.Answers.{arrived, arrived_past}
 -- ---- who is skipped
 
 -- The first k have no room.
-abbrev pub SkippedTo : Run → ℕ → Type 0
-SkippedTo r k = skipped r ≡ first_from (λ j. room? r (seat_at r (onward r j))) k (playing r - k)
+pub record SkippedTo (r : Run) (k : ℕ) : Type 0 where
+  pub inside : k ≤ playing r
+  pub rest : skipped r ≡ first_from (λ j. room? r (seat_at r (onward r j))) k (playing r - k)
 
 module _ (r : Run) where
   pub skips_none : SkippedTo r 0
   unfolding skipped
-  skips_none = sym (first_all _ (playing r))
+  skips_none = record { inside = omega arith; rest = sym (first_all _ (playing r)) }
 
   pub skips_more : (k : ℕ) → SkippedTo r k → k < playing r → (RoomAt r (seat_at r (onward r k)) → ⊥) → SkippedTo r (k + 1)
-  skips_more k h l n = h ∙ first_on _ k (playing r) l n
+  skips_more k h l n = record { inside = omega arith; rest = h.rest ∙ first_on _ k (playing r) l n }
 
   pub skips_found : (k : ℕ) → SkippedTo r k → k < playing r → RoomAt r (seat_at r (onward r k)) → k ≡ skipped r
-  skips_found k h l g = sym (h ∙ first_hit _ k (playing r) l g)
+  skips_found k h l g = sym (h.rest ∙ first_hit _ k (playing r) l g)
 
   pub skips_all : (k : ℕ) → SkippedTo r k → playing r ≤ k → k ≡ skipped r
-  skips_all k h l = sym (h ∙ first_none _ k (playing r) l)
+  skips_all k h l = sym (h.rest ∙ first_none _ k (playing r) l)
 
 -- ---- where choose arrives
 

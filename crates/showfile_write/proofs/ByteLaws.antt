@@ -33,11 +33,11 @@ four_length p q r s = refl
 
 -- four words, one after the other
 pub four_words :
-    (b : List ℕ) {b₁ b₂ b₃ b₄ : List ℕ} (p q r s : ℕ) → 16 ≤ length b → b₁ ≡ over b 0 (word_bytes p) →
-    b₂ ≡ over b₁ 4 (word_bytes q) → b₃ ≡ over b₂ 8 (word_bytes r) → b₄ ≡ over b₃ 12 (word_bytes s) →
-    b₄ ≡ over b 0 (four_bytes p q r s)
+    (b : List ℕ) {b₁ b₂ b₃ b₄ : List ℕ} (at p q r s : ℕ) → at + 16 ≤ length b → b₁ ≡ over b at (word_bytes p) →
+    b₂ ≡ over b₁ (at + 4) (word_bytes q) → b₃ ≡ over b₂ (at + 8) (word_bytes r) → b₄ ≡ over b₃ (at + 12) (word_bytes s) →
+    b₄ ≡ over b at (four_bytes p q r s)
 unfolding four_bytes
-four_words b p q r s h e₁ e₂ e₃ e₄ =
+four_words b at p q r s h e₁ e₂ e₃ e₄ =
     let u = word_bytes p in
     let v = word_bytes q in
     let w = word_bytes r in
@@ -48,7 +48,7 @@ four_words b p q r s h e₁ e₂ e₃ e₄ =
     let one : length u ≡ 4 = word_length p in
     let lv : length v ≡ 4 = word_length q in
     let lw : length w ≡ 4 = word_length r in
-    over_then b 0 (u ++ v ++ w) 12 x
-    (over_then b 0 (u ++ v) 8 w (over_then b 0 u 4 v e₁ e₂ (omega arith) (omega arith)) e₃ (omega arith) (omega arith))
+    over_then b at (u ++ v ++ w) (at + 12) x
+    (over_then b at (u ++ v) (at + 8) w (over_then b at u (at + 4) v e₁ e₂ (omega arith) (omega arith)) e₃ (omega arith) (omega arith))
     e₄ (omega arith) (omega arith)
-    ∙ ap (λ (t : List ℕ). over b 0 t) (simp append_assoc)
+    ∙ ap (λ (t : List ℕ). over b at t) (simp append_assoc)

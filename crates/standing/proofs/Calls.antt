@@ -8,7 +8,7 @@ use lib.IntN.{ℤ}
 use Rattle.show.specs.Outcomes.{Check}
 use Rattle.show.specs.declared.refusal.Refusal.{Refusal}
 use Rattle.show.specs.declared.refusal.Refusal.TheVariants as refusal
-use Rattle.show.proofs.Checks.{within_refused, unless_kept, unless_broken, unless_within, first_within}
+use Rattle.show.proofs.Checks.{within_refused, unless_kept, unless_broken, unless_within, first_refused, first_within}
 use Rattle.run.specs.declared.Run.{Run}
 use Rattle.run.specs.Run.{playing, state_at, clip_at}
 use Rattle.run.specs.Sound.{SoundRun}
@@ -17,10 +17,10 @@ use Rattle.workahead.proofs.Calls.{timed_refused, timed_granted, time_refused, a
 use Rattle.standing.specs.declared.Standing.{Standing}
 use Rattle.standing.specs.declared.Stood.{Stood}
 use Rattle.standing.specs.Times.{ahead_at, slack_time}
-use Rattle.standing.specs.Standing.{standing_of, Fit, standing_slack}
+use Rattle.standing.specs.Standing.{no_standing, standing_of, Fit, standing_slack}
 use Rattle.standing.specs.Decisions.{fit?}
 use Rattle.workahead.specs.Answers.{ahead_for}
-use Rattle.standing.specs.Answers.{stood_by, stood_of, fit_check, slack_for}
+use Rattle.standing.specs.Answers.{stood_by, stood_of, fit_check, someone_check, slack_for}
 use Rattle.standing.proofs.Countings.{counting}
 use Rattle.standing.proofs.Standings.{standing_fit, slack_in_is}
 
@@ -31,6 +31,9 @@ module _ (r : Run) where
   unfolding stood_of
   by k t e f = ap (λ (x : Check). stood_by x (standing_of r)) (sym f) ∙ e
 
+  pub stand_damaged : (SoundRun r → ⊥) → record { check = Err refusal.Damaged; standing = no_standing } ≡ stood_of r
+  stand_damaged n = by (Err refusal.Damaged) _ refl (unless_broken (sound? r) refusal.Damaged n)
+
   pub stand_stands : (s : Standing) → SoundRun r → s ≡ standing_of r → record { check = Ok tt; standing = s } ≡ stood_of r
   stand_stands s h e =
       ap (stood_by (Ok tt)) e ∙ by (Ok tt) _ refl (unless_kept (sound? r) refusal.Damaged h)
@@ -38,6 +41,10 @@ module _ (r : Run) where
 -- ---- slack
 
 module _ (s : Standing) where
+  pub slack_unfit : (Fit s → ⊥) → Err refusal.Damaged ≡ slack_for s
+  unfolding slack_for
+  slack_unfit n = timed_refused _ _ refusal.Damaged (first_refused _ (someone_check s) (unless_broken (fit? s) refusal.Damaged n))
+
   module _ (f : Fit s) where
     fit : fit_check s ≡ Ok tt
     fit = unless_kept (fit? s) refusal.Damaged f
@@ -63,6 +70,10 @@ stood_sound r t e h = from (sound_check r) refl (sym (ap (λ (x : Stood). x.chec
     from : (k : Check) → sound_check r ≡ k → (stood_by k (standing_of r)).check ≡ Ok tt → SoundRun r
     from (Ok tt) f g = unless_within (sound? r) refusal.Damaged f
     from (Err w) f g = within_refused (sym g)
+
+pub stood_damaged : (r : Run) (t : Stood) {w : Refusal} → t ≡ stood_of r → t.check ≡ Err w → SoundRun r → ⊥
+stood_damaged r t e h s =
+    within_refused (ap (λ (x : Stood). x.check) (stand_stands r (standing_of r) s refl ∙ sym e) ∙ h)
 
 module _ (r : Run) (s : SoundRun r) where
   pub stood_standing : (t : Stood) → t ≡ stood_of r → t.standing ≡ standing_of r

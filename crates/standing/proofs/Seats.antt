@@ -172,7 +172,7 @@ module _ (s : Standing) (o : List ℕ) (h : Seated (place_in s.places) (seat_in 
     spare : x ≡ spare_in s (seat_in o k)
     spare = turn_spare k _ x l (turn_next sum k l t.times) g
 
-    turned_less : x <ℤ least → LeastTo s o (sum + set_of s.times (seat_in o k)) x (k + 1)
+    pub turned_less : x <ℤ least → LeastTo s o (sum + set_of s.times (seat_in o k)) x (k + 1)
     turned_less b =
         record {
           some = omega arith;
@@ -181,7 +181,7 @@ module _ (s : Standing) (o : List ℕ) (h : Seated (place_in s.places) (seat_in 
           is = spare ∙ sym (least_less (λ m. spare_in s (seat_in o m)) k t.some (rw (spare, t.is) at b));
         }
 
-    turned_more : (x <ℤ least → ⊥) → LeastTo s o (sum + set_of s.times (seat_in o k)) least (k + 1)
+    pub turned_more : (x <ℤ least → ⊥) → LeastTo s o (sum + set_of s.times (seat_in o k)) least (k + 1)
     turned_more b =
         record {
           some = omega arith;

@@ -82,9 +82,11 @@ fn put_bytes(out: &mut [u8], at: usize, word: &[u8]) -> usize
     requires { FitsAt out.old at word.now }
     ensures { Put out.old at word.now out.new result }
 {
-    let end = at + word.len();
-    out[at..end].copy_from_slice(word);
-    end
+    // No `copy_from_slice`: it is a call of memmove, and the archive for C uses memcpy and memset alone.
+    for (i, b) in word.iter().enumerate() {
+        out[at + i] = *b;
+    }
+    at + word.len()
 }
 
 // The digits of a number, backwards from where they end. No `Display`, as is said at `fits`.

@@ -58,10 +58,10 @@ module _
     abbrev Over : ℕ → Type 0
     Over t = Holds (load_of s) t (set_of m)
 
-    trial_holds : Over round → TrialIs s m (trial_of (Ok true) round times)
+    pub trial_holds : Over round → TrialIs s m (trial_of (Ok true) round times)
     trial_holds h = subst (TrialIs s m) (sym (same (Ok true))) (holds w (holds_good s w (set_of m) (subst Over e h)))
 
-    trial_fails : (Over round → ⊥) → TrialIs s m (trial_of (Ok false) round times)
+    pub trial_fails : (Over round → ⊥) → TrialIs s m (trial_of (Ok false) round times)
     trial_fails none =
         subst (TrialIs s m) (sym (same (Ok false))) (fails w (λ g. none (subst Over (sym e) (good_holds s w (set_of m) g))))
 

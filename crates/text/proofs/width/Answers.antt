@@ -25,5 +25,10 @@ width_is n m k e b h g =
     same (yes l) = let i : m ≡ n = omega arith in ap (λ (x : ℕ). length (decimal x)) i
     same (no l) = omega (arith, ap length (decimal_last m (omega arith)), ap length (decimal_last n (omega arith)))
 
+-- by arithmetic: a body that comes to as many digits in another way is proved by it too
 pub returns : goal.returns
-returns c = width_is c.args.n c.max.result c.ilog10.result c.max.ensures c.max.type_inv c.ilog10.ensures.power_le c.ilog10.ensures.next_power_gt
+returns c =
+    omega (
+      arith,
+      width_is c.args.n c.max.result c.ilog10.result c.max.ensures c.max.type_inv c.ilog10.ensures.power_le c.ilog10.ensures.next_power_gt,
+    )

@@ -71,7 +71,7 @@ bounds-s-i-in-loop-k c = few _ c.requires.fit c.ordered-seats.ensures _ c.loop-k
 pub net-requires : goal.net-requires
 net-requires c = (
   near _ c.requires.fit c.ordered-seats.ensures _ c.loop-k-test.true,
-  next_small _ _ (seats _ c.requires.fit c.ordered-seats.ensures) c.requires.fit _ _ c.loop-k-test.true c.loop-k.invariant.times,
+  omega (arith, next_small _ _ (seats _ c.requires.fit c.ordered-seats.ensures) c.requires.fit _ _ c.loop-k-test.true c.loop-k.invariant.times),
 )
 
 pub loop-k-preserved : goal.loop-k-preserved
